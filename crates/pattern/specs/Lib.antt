@@ -1,0 +1,4 @@
+-- What a reader must believe of filters.
+pub mod Filters
+pub mod Notations
+pub mod Space
