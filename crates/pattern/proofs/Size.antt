@@ -11,8 +11,7 @@ use lib.Dec.{T, eqb, eqb→eq, eqb-refl}
 use lib.Bits.{bitAnd, bitOr, and-step, and-shr, and-zero-r}
 use lib.Count.{ones, ones-step, ones-le}
 use Rattle.pattern.specs.declared.Pattern.{Pattern}
-use Rattle.pattern.specs.Filters.{hits, held, WellFormed}
-use Rattle.pattern.specs.Space.{count}
+use Rattle.pattern.specs.Filters.{hits, held, WellFormed, count}
 use Rattle.pattern.proofs.Tests.{eq→eqb, both, iff-eq}
 
 -- ---- counts

@@ -1,7 +1,7 @@
 -- Paper 01, "Filters and tables": a filter is a care mask and a value.
-use mathlib.Core.Bool.{Bool, _&&_}
+use mathlib.Core.Bool.{Bool, _&&_, cond}
 use mathlib.Core.Path.{_≡_}
-use Prim.Native.Nat.{ℕ, _-_, _^_, _<_}
+use Prim.Native.Nat.{ℕ, zero, suc, _+_, _-_, _^_, _<_}
 use lib.Bits.{bitAnd, bitOr}
 use lib.Count.{ones}
 use lib.Dec.{eqb}
@@ -38,3 +38,8 @@ common p q = record { care = bitOr (p .care) (q .care); value = bitOr (p .value)
 -- A filter with f free bits holds 2^f headers.
 abbrev pub held : ℕ → Pattern → ℕ
 held w p = 2 ^ (w - ones (p .care))
+
+-- Counting over the header space: how many numbers below n pass the test. The headers of w bits are those below 2^w.
+unfoldable pub count : (ℕ → Bool) → ℕ → ℕ
+count t zero = zero
+count t (suc n) = count t n + cond (t n) 1 0

@@ -1,4 +1,3 @@
 -- What a reader must believe of filters.
 pub mod Filters
 pub mod Notations
-pub mod Space

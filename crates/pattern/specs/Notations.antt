@@ -1,5 +1,5 @@
 -- Paper 01, "The network file": the two notations of a mask, and the refusals 8 and 9 of a filter.
-use mathlib.Core.Bool.{Bool, true, false, cond}
+use mathlib.Core.Bool.{cond}
 use Prim.Native.Nat.{ℕ, _-_, _^_}
 use lib.Bits.{bitAnd, bitXor}
 use lib.Dec.{eqb, ltb}
