@@ -9,11 +9,8 @@ use Rattle.pattern.specs.declared.Noted.the-variants.{Fine, WideMask, Wi
 -- The mask is zero above bit w-1, then the value is, then the value is zero at free bits.
 unfoldable pub notedOf : ℕ → ℕ → ℕ → ℕ → Noted
 notedOf w care mask value =
-    cond (ltb mask (2 ^ w))
-    (cond (ltb value (2 ^ w))
-    (cond (eqb (bitAnd value care) value) (Fine (record { care = care; value = value })) ValueAtFree)
-    WideValue)
-    WideMask
+    cond (ltb mask (2 ^ w)) (cond (ltb value (2 ^ w)) (cond (eqb (bitAnd value care) value)
+    (Fine (record { care = care; value = value })) ValueAtFree) WideValue) WideMask
 
 -- A mask's one means a bit that must match.
 abbrev pub caringOf : ℕ → ℕ → ℕ → Noted
