@@ -77,8 +77,8 @@ within-trans p q r i j = (
       (x0 ∩ x3 ≐ x4) tt (j .0) (i .1) (j .1),
 )
 
-pub within-antisym : (p q : Pattern) → Fit p → Fit q → Within p q → Within q p → p ≡ q
-within-antisym p q fp fq i j = λ k. record { care = cares k; value = values k }
+pub within-antisym : (p q : Pattern) → Fit p → Within p q → Within q p → p ≡ q
+within-antisym p q fp i j = λ k. record { care = cares k; value = values k }
   where
     cares : p .care ≡ q .care
     cares = by-bits (p .care ∷ q .care ∷ []) ((x0 ∩ x1 ≐ x1) ∷ (x1 ∩ x0 ≐ x0) ∷ []) (x0 ≐ x1) tt (i .0) (j .0)
