@@ -1,0 +1,16 @@
+-- `classes::taking::comes_before` meets its contract: each return rewrites with the tests that led there.
+use borrow.Author.Tests.{lt-ltb, le-ltb, eq-eqb, ne-eqb}
+use Rattle.classes.proofs.taking.comes_before.Statement.{statement}
+use Rattle.classes.proofs.taking.comes_before.Tie as tie
+
+returns : tie.Need-returns
+returns c = simp (lt-ltb _ _ (c .if1 .taken))
+
+returns-2 : tie.Need-returns-2
+returns-2 c = simp (le-ltb _ _ (c .before .before .before .before .before .if1 .left), eq-eqb _ _ (c .before .before .if2 .taken))
+
+returns-3 : tie.Need-returns-3
+returns-3 c = simp (le-ltb _ _ (c .before .before .before .if1 .left), ne-eqb _ _ (c .if2 .left))
+
+pub comes-before-spec : {M : Type 1} → statement M
+comes-before-spec = tie.close (tie.spec returns returns-2 returns-3)

@@ -1,0 +1,101 @@
+-- `classes::taking::within_sum` meets its contract. The loop's invariant: what is summed and what is still to come make the whole.
+use mathlib.Core.Path.{_≡_, sym, _∙_}
+use mathlib.Core.Logic.{_⊎_, ⊎-elim}
+use Prim.Native.Nat.{_+_, _-_, _≤_}
+use native.Mathlib.Omega.{arith}
+use Rattle.pattern.specs.Filters.{within}
+use Rattle.classes.specs.Steps.{sumIf, rows}
+use borrow.Author.Needs.{needs}
+use Rattle.classes.proofs.Rows.{sum-in, sum-out, sum-end}
+use Rattle.classes.proofs.taking.within_sum.Statement.{statement}
+use Rattle.classes.proofs.taking.within_sum.Tie as tie
+
+abbrev Inv-loop : tie.InvT-loop
+Inv-loop cares values sizes from n p sum₀ j₀ sum j = (j ≤ n) × (sum + sumIf (λ q. within q p) (rows cares values sizes j (n - j)) ≡ sumIf (λ q. within q p) (rows cares values sizes from (n - from)))
+
+abbrev μ-loop : tie.MeasureT-loop
+μ-loop cares values sizes from n p sum₀ j₀ sum j = n - j
+
+loop-holds : tie.Need-loop-holds Inv-loop μ-loop
+loop-holds c = omega arith
+
+mul-care : tie.Need-mul-care Inv-loop μ-loop
+mul-care c = omega arith
+
+shared-slice-read-care : tie.Need-shared-slice-read-care Inv-loop μ-loop
+shared-slice-read-care c = omega arith
+
+mul-value : tie.Need-mul-value Inv-loop μ-loop
+mul-value c = omega arith
+
+shared-slice-read-value : tie.Need-shared-slice-read-value Inv-loop μ-loop
+shared-slice-read-value c = omega arith
+
+within-requires : tie.Need-within-requires Inv-loop μ-loop
+within-requires c κs = search needs
+
+mul-sum : tie.Need-mul-sum Inv-loop μ-loop
+mul-sum c = omega arith
+
+shared-slice-read-sum : tie.Need-shared-slice-read-sum Inv-loop μ-loop
+shared-slice-read-sum c = omega arith
+
+add-sum : tie.Need-add-sum Inv-loop μ-loop
+add-sum c =
+    let s = c .before .before .before .before .before .before .before .before .before .before in
+    let a = s .args in
+    omega (
+      arith,
+      sum-in (λ q. within q (a .p)) (a .cares .now) (a .values .now) (a .sizes .now) _ _ (c .before .before .before .before .before .loop-test .taken) (sym (c .before .if1 .taken) ∙ c .before .before .within .ensures),
+      c .before .before .before .before .before .before .loop .inv .1,
+      s .pre,
+    )
+
+add-j : tie.Need-add-j Inv-loop μ-loop
+add-j c = omega arith
+
+loop-less : tie.Need-loop-less Inv-loop μ-loop
+loop-less c = omega arith
+
+loop-again : tie.Need-loop-again Inv-loop μ-loop
+loop-again c =
+    let a = c .before .before .before .before .before .before .before .before .before .args in
+    ⊎-elim
+    (λ t. omega (
+      arith,
+      t .2,
+      sum-in (λ q. within q (a .p)) (a .cares .now) (a .values .now) (a .sizes .now) _ _ (c .before .before .before .before .loop-test .taken) (sym (t .0 .taken) ∙ c .before .within .ensures),
+      c .before .before .before .before .before .loop .inv .1,
+    ))
+    (λ t. omega (
+      arith,
+      t .1,
+      sum-out (λ q. within q (a .p)) (a .cares .now) (a .values .now) (a .sizes .now) _ _ (c .before .before .before .before .loop-test .taken) (sym (t .0 .left) ∙ c .before .within .ensures),
+      c .before .before .before .before .before .loop .inv .1,
+    ))
+    (c .if1 .came)
+
+returns : tie.Need-returns Inv-loop μ-loop
+returns c =
+    let a = c .before .before .before .before .before .args in
+    omega (arith, c .before .loop .inv .1, sum-end (λ q. within q (a .p)) (a .cares .now) (a .values .now) (a .sizes .now) _ _ (c .loop-test .left))
+
+pub within-sum-spec : {M : Type 1} → statement M
+within-sum-spec =
+    tie.close
+    (tie.spec
+    Inv-loop
+    μ-loop
+    loop-holds
+    mul-care
+    shared-slice-read-care
+    mul-value
+    shared-slice-read-value
+    within-requires
+    mul-sum
+    shared-slice-read-sum
+    add-sum
+    add-j
+    loop-less
+    loop-again
+    returns)
