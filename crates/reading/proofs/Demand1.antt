@@ -8,7 +8,7 @@ use mathlib.Core.Logic.{_⊎_, inl, inr}
 use mathlib.Core.Path.{_≡_, refl, sym, ap, subst, _∙_}
 use native.Mathlib.Omega.{arith}
 use native.Mathlib.Numerals.{add-one}
-use borrow.Author.Tests.{ltb-true}
+use borrow.Author.Tests.{ltb-true, lt-ltb}
 use lib.ListN.{length, getD, take, drop, List·getD-append}
 use Rattle.pattern.specs.declared.Pattern.{Pattern}
 use Rattle.pattern.specs.Filters.{WellFormed}
@@ -224,6 +224,19 @@ gives s net e = of-accepted (Gives s (length s + 1) start) s net (opening-gives 
 
 pub accepted-is-bounded : (s : List ℕ) (net : Network) → parse s ≡ accepted net → Bounded net
 accepted-is-bounded s net e = gives s net e .bounded
+
+-- The code's test passes for each rule.
+pub rules-lead : (s : List ℕ) (net : Network) → parse s ≡ accepted net → Every (λ r. leadsIn (length (net .tables)) (r .action) ≡ true) (rulesOf net)
+rules-lead s net e = go (rulesOf net) (accepted-is-bounded s net e .next-nodes)
+  where
+    below-leads : (n : ℕ) (a : Action) → NextBelow n a → leadsIn n a ≡ true
+    below-leads n (Forward next) h = lt-ltb next n h
+    below-leads n Drop h = refl
+    below-leads n Deliver h = refl
+
+    go : (rs : List Rule) → Every (λ r. NextBelow (length (net .tables)) (r .action)) rs → Every (λ r. leadsIn (length (net .tables)) (r .action) ≡ true) rs
+    go [] h = tt
+    go (r ∷ rs) h = (below-leads (length (net .tables)) (r .action) (h .0), go rs (h .1))
 
 -- An answer with figures is an accepted network's.
 pub record AcceptedAs (s : List ℕ) (w n k : ℕ) : Type 0 where

@@ -1,0 +1,234 @@
+-- The working arrays hold the network's tables: what a node does by them is what its table does.
+use mathlib.Core.Path.{_≡_, refl, sym, _∙_, ap, ap₂, subst}
+use mathlib.Core.Bool.{Bool, true, false, cond}
+use mathlib.Core.List.{List, [], _∷_, _++_, map, map-map, flatten}
+use Prim.Native.Nat.{ℕ, zero, suc, _+_, _-_, _^_, _≤_, _<_}
+use native.Mathlib.Nat.{sub-zero}
+use native.Mathlib.Numerals.{add-one}
+use native.Mathlib.Omega.{arith}
+use lib.Dec.{ltb}
+use lib.ListN.{length, getD, take, drop, replicate, length-append, length-drop, length-map, List·getD-append}
+use lib.Seq.{drop-append-le}
+use borrow.Author.Tests.{ltb-true}
+use Rattle.pattern.specs.declared.Pattern.{Pattern}
+use Rattle.pattern.specs.Filters.{within, headerOf}
+use Rattle.reading.specs.declared.Action.{Action}
+use Rattle.reading.specs.declared.Action.the-variants.{Forward, Drop, Deliver}
+use Rattle.reading.specs.declared.Rule.{Rule}
+use Rattle.reading.specs.Network.{rulesOf, act}
+use Rattle.reading.specs.File.{Parsed, refused, parse}
+use Rattle.reading.specs.Code.{leadsIn}
+use Rattle.reading.specs.Arrays.{caresOf, valuesOf, actionsOf, firstsOf, codeOf, filled}
+use Rattle.reading.proofs.Networks.{Every, starts}
+use Rattle.reading.proofs.Demand1.{rules-lead, Bounded, accepted-is-bounded, ArraysAgree, arrays-agree, table-in-arrays}
+use Rattle.least.proofs.LeastHeader.{head-at, tail-at}
+use Rattle.judge.specs.declared.WalkAnswer.{WalkAnswer}
+use Rattle.judge.specs.declared.WalkAnswer.the-variants.{Refused, Circling}
+use Rattle.judge.specs.Forwarding.{actAt}
+use Rattle.judge.specs.Walking.{isIn, onAction, walkFrom, walkBy, walkRead, walkOf}
+use Rattle.judge.specs.Steps.{networkOf, decoded, rulesAt, actsIn, Within}
+use Rattle.judge.proofs.FromFile.{Told}
+use Rattle.judge.proofs.WalkSteps.{decoded-deliver, decoded-drop, decoded-forward}
+
+-- a rule whose action leads to a node below n
+abbrev Leads : ℕ → Rule → Type 0
+Leads n r = leadsIn n (r .action) ≡ true
+
+-- ---- an action byte is read back
+
+decoded-code : (n : ℕ) (a : Action) → n ≤ 64 → leadsIn n a ≡ true → decoded n (codeOf a) ≡ a
+decoded-code n (Forward next) h l = let lt : next < n = ltb-true next n l in decoded-forward n next (λ e. omega arith) lt
+decoded-code n Drop h l = decoded-drop n 64 (λ e. omega arith) h
+decoded-code n Deliver h l = decoded-deliver n 65 refl
+
+-- ---- rules that stand in the arrays from place j on
+
+abbrev careIn : Rule → ℕ
+careIn r = r .pattern .care
+
+abbrev valueIn : Rule → ℕ
+valueIn r = r .pattern .value
+
+abbrev codeIn : Rule → ℕ
+codeIn r = codeOf (r .action)
+
+module _ (cs vs ks r s u : List ℕ) (n : ℕ) (few : n ≤ 64) where
+  rules-stand : (K : List Rule) (j k : ℕ) → drop j cs ≡ map careIn K ++ r → drop j vs ≡ map valueIn K ++ s → drop j ks ≡ map codeIn K ++ u
+      → Every (Leads n) K → k ≤ length K → rulesAt cs vs ks n j k ≡ take k K
+  unfolding rulesAt
+  rules-stand K j zero a b c e h = refl
+  rules-stand [] j (suc k) a b c e h = absurd (omega arith)
+  rules-stand (x ∷ K) j (suc k) a b c e h =
+      ap₂ (λ (y : Rule) (L : List Rule). y ∷ L)
+      (rule (head-at cs (map careIn K ++ r) (careIn x) j a) (head-at vs (map valueIn K ++ s) (valueIn x) j b)
+      (ap (decoded n) (head-at ks (map codeIn K ++ u) (codeIn x) j c) ∙ decoded-code n (x .action) few (e .0)))
+      (rules-stand K (suc j) k (tail-at cs (map careIn K ++ r) (careIn x) j a) (tail-at vs (map valueIn K ++ s) (valueIn x) j b)
+      (tail-at ks (map codeIn K ++ u) (codeIn x) j c) (e .1) (omega arith))
+    where
+      rule : {p q : ℕ} {w : Action} → p ≡ careIn x → q ≡ valueIn x → w ≡ x .action
+          → (let y : Rule = record { pattern = record { care = p; value = q }; action = w } in y) ≡ x
+      rule f g h = λ i. record { pattern = record { care = f i; value = g i }; action = h i }
+
+map-drop : (g : Rule → ℕ) (j : ℕ) (K : List Rule) → drop j (map g K) ≡ map g (drop j K)
+map-drop g zero K = refl
+map-drop g (suc j) [] = refl
+map-drop g (suc j) (x ∷ K) = map-drop g j K
+
+every-drop : (P : Rule → Type 0) (j : ℕ) (K : List Rule) → Every P K → Every P (drop j K)
+every-drop P zero K e = e
+every-drop P (suc j) [] e = e
+every-drop P (suc j) (x ∷ K) e = every-drop P j K (e .1)
+
+-- a list that begins with a figure of each rule, from place j on
+figures-from : (g : Rule → ℕ) (R : List Rule) (xs r : List ℕ) (j : ℕ) → xs ≡ map g R ++ r → j ≤ length R → drop j xs ≡ map g (drop j R) ++ r
+figures-from g R xs r j e h =
+    ap (drop j) e
+    ∙ drop-append-le j (map g R) r (omega (arith, length-map R g, h))
+    ∙ ap (λ (l : List ℕ). l ++ r) (map-drop g j R)
+
+-- ---- the numbers of the tables' first rules
+
+starts-length : (k : ℕ) (ts : List (List Rule)) → length (starts k ts) ≡ length ts + 1
+starts-length k [] = refl
+starts-length k (t ∷ ts) = omega (arith, starts-length (k + length t) ts)
+
+starts-le : (k : ℕ) (ts : List (List Rule)) (v : ℕ) → v ≤ length ts → getD (starts k ts) v 0 ≤ k + length (flatten ts)
+unfolding flatten
+starts-le k [] zero h = omega arith
+starts-le k [] (suc v) h = absurd (omega arith)
+starts-le k (t ∷ ts) zero h = omega arith
+starts-le k (t ∷ ts) (suc v) h = omega (arith, starts-le (k + length t) ts v (omega arith), length-append t (flatten ts))
+
+-- ---- a table's actions lead to nodes
+
+every-front : (P : Rule → Type 0) (t u : List Rule) → Every P (t ++ u) → Every P t × Every P u
+every-front P [] u e = (tt, e)
+every-front P (r ∷ t) u e = let s = every-front P t u (e .1) in ((e .0, s .0), s .1)
+
+pub every-table : (P : Rule → Type 0) (ts : List (List Rule)) (v : ℕ) → Every P (flatten ts) → Every P (getD ts v [])
+unfolding flatten
+every-table P [] v e = tt
+every-table P (t ∷ ts) zero e = every-front P t (flatten ts) e .0
+every-table P (t ∷ ts) (suc v) e = every-table P ts v (every-front P t (flatten ts) e .1)
+
+pub act-leads : (n : ℕ) (t : List Rule) (query : Pattern) → Every (Leads n) t → leadsIn n (act t query) ≡ true
+unfolding act
+act-leads n [] query e = refl
+act-leads n (r ∷ t) query e = go (within query (r .pattern)) (act-leads n t query (e .1))
+  where
+    go : (b : Bool) → leadsIn n (act t query) ≡ true → leadsIn n (cond b (r .action) (act t query)) ≡ true
+    go true rest = e .0
+    go false rest = rest
+
+-- ---- two walks by functions that agree at the nodes
+
+module _ (f g : ℕ → Action) (n : ℕ) (agree : (v : ℕ) → v < n → f v ≡ g v) (leads : (v : ℕ) → v < n → leadsIn n (g v) ≡ true) where
+  walk-same : (met : List ℕ) (node hops k : ℕ) → node < n → walkFrom f met node hops k ≡ walkFrom g met node hops k
+  unfolding walkFrom onAction
+  walk-same met node hops zero lt = refl
+  walk-same met node hops (suc k) lt =
+      ap (λ (a : Action). onAction a met node hops (λ next. walkFrom f (next ∷ met) next (suc hops) k)) (agree node lt)
+      ∙ go (g node) (leads node lt) (λ next h. walk-same (next ∷ met) next (suc hops) k h)
+    where
+      go : (a : Action) → leadsIn n a ≡ true → ((next : ℕ) → next < n → walkFrom f (next ∷ met) next (suc hops) k ≡ walkFrom g (next ∷ met) next (suc hops) k)
+          → onAction a met node hops (λ next. walkFrom f (next ∷ met) next (suc hops) k) ≡ onAction a met node hops (λ next. walkFrom g (next ∷ met) next (suc hops) k)
+      go (Forward next) l rec = ap (λ (x : WalkAnswer). cond (isIn next met) (Circling next (suc hops)) x) (rec next (ltb-true next n l))
+      go Drop l rec = refl
+      go Deliver l rec = refl
+
+  pub walk-by-same : (w header start : ℕ) → walkBy f w n header start ≡ walkBy g w n header start
+  unfolding walkBy
+  walk-by-same w header start = ap (λ (x : WalkAnswer). cond (ltb header (2 ^ w)) x (Refused 14 0)) (go (ltb start n) refl)
+    where
+      go : (b : Bool) → ltb start n ≡ b → cond b (walkFrom f (start ∷ []) start 0 n) (Refused 15 0) ≡ cond b (walkFrom g (start ∷ []) start 0 n) (Refused 15 0)
+      go true t = walk-same (start ∷ []) start 0 n (ltb-true start n t)
+      go false t = refl
+
+-- ---- what the reading left in the arrays
+
+pub few-nodes : (s : List ℕ) (w n r : ℕ) → Told s w n r → n ≤ 64
+few-nodes s w n r t = omega (arith, accepted-is-bounded s (networkOf s) (t .parsed) .most-nodes, t .nodes)
+
+pub narrow-width : (s : List ℕ) (w n r : ℕ) → Told s w n r → w ≤ 32
+narrow-width s w n r t = omega (arith, accepted-is-bounded s (networkOf s) (t .parsed) .most-width, t .width)
+
+pub walk-refused : (s : List ℕ) (header start number place : ℕ) → parse s ≡ refused number place → walkOf s header start ≡ Refused number place
+unfolding walkOf
+walk-refused s header start number place e = ap (λ (p : Parsed). walkRead p header start) e
+
+module _ (s : List ℕ) (w n r : ℕ) (t : Told s w n r) (cs vs ks fs : List ℕ)
+    (cares : cs ≡ filled (caresOf s) (replicate 256 0)) (values : vs ≡ filled (valuesOf s) (replicate 256 0))
+    (actions : ks ≡ filled (actionsOf s) (replicate 256 0)) (firsts : fs ≡ filled (firstsOf s) (replicate 65 0)) where
+  bounds : Bounded (networkOf s)
+  bounds = accepted-is-bounded s (networkOf s) (t .parsed)
+
+  arrays : ArraysAgree s (networkOf s)
+  arrays = arrays-agree s (networkOf s) (t .parsed)
+
+  few : n ≤ 64
+  few = few-nodes s w n r t
+
+  first-at : (v : ℕ) → v ≤ n → getD fs v 0 ≡ getD (starts 0 (networkOf s .tables)) v 0
+  first-at v h =
+      ap (λ (l : List ℕ). getD l v 0) firsts
+      ∙ List·getD-append (firstsOf s) (drop (length (firstsOf s)) (replicate 65 0)) 0 v
+      (omega (arith, ap length (arrays .firsts), starts-length 0 (networkOf s .tables), t .nodes))
+      ∙ ap (λ (l : List ℕ). getD l v 0) (arrays .firsts)
+
+  last-le : (v : ℕ) → v ≤ n → getD fs v 0 ≤ length (rulesOf (networkOf s))
+  last-le v h = omega (arith, first-at v h, starts-le 0 (networkOf s .tables) v (omega (arith, t .nodes)))
+
+  pub within-arrays : Within fs n
+  within-arrays v h = omega (arith, last-le (v + 1) (omega arith), bounds .most-rules)
+
+  -- each array begins with its figure of each rule
+  caring : cs ≡ map careIn (rulesOf (networkOf s)) ++ drop (length (caresOf s)) (replicate 256 0)
+  caring =
+      cares
+      ∙ ap (λ (l : List ℕ). l ++ drop (length (caresOf s)) (replicate 256 0))
+      (arrays .cares ∙ map-map (λ (p : Pattern). p .care) (λ (x : Rule). x .pattern) (rulesOf (networkOf s)))
+
+  valued : vs ≡ map valueIn (rulesOf (networkOf s)) ++ drop (length (valuesOf s)) (replicate 256 0)
+  valued =
+      values
+      ∙ ap (λ (l : List ℕ). l ++ drop (length (valuesOf s)) (replicate 256 0))
+      (arrays .values ∙ map-map (λ (p : Pattern). p .value) (λ (x : Rule). x .pattern) (rulesOf (networkOf s)))
+
+  coded : ks ≡ map codeIn (rulesOf (networkOf s)) ++ drop (length (actionsOf s)) (replicate 256 0)
+  coded = actions ∙ ap (λ (l : List ℕ). l ++ drop (length (actionsOf s)) (replicate 256 0)) (arrays .actions)
+
+  all-lead : Every (Leads n) (rulesOf (networkOf s))
+  all-lead = subst (λ (m : ℕ). Every (Leads m) (rulesOf (networkOf s))) (t .nodes) (rules-lead s (networkOf s) (t .parsed))
+
+  table-at : (v : ℕ) → v < n → rulesAt cs vs ks n (getD fs v 0) (getD fs (v + 1) 0 - getD fs v 0) ≡ getD (networkOf s .tables) v []
+  table-at v h =
+      rules-stand cs vs ks (drop (length (caresOf s)) (replicate 256 0)) (drop (length (valuesOf s)) (replicate 256 0)) (drop (length (actionsOf s)) (replicate 256 0)) n few
+      (drop (getD fs v 0) R) (getD fs v 0) (getD fs (v + 1) 0 - getD fs v 0)
+      (figures-from careIn R cs (drop (length (caresOf s)) (replicate 256 0)) (getD fs v 0) caring here)
+      (figures-from valueIn R vs (drop (length (valuesOf s)) (replicate 256 0)) (getD fs v 0) valued here)
+      (figures-from codeIn R ks (drop (length (actionsOf s)) (replicate 256 0)) (getD fs v 0) coded here)
+      (every-drop (Leads n) (getD fs v 0) R all-lead)
+      (omega (arith, length-drop (getD fs v 0) R, last-le (v + 1) (omega arith)))
+      ∙ ap₂ (λ (a b : ℕ). take (b - a) (drop a R)) (first-at v (omega arith)) (first-at (v + 1) (omega arith) ∙ ap (λ (i : ℕ). getD (starts 0 (networkOf s .tables)) i 0) (add-one v))
+      ∙ ap (λ (a : ℕ). take (getD (starts 0 (networkOf s .tables)) (suc v) 0 - getD (starts 0 (networkOf s .tables)) v 0) (drop a R)) (sym (sub-zero (getD (starts 0 (networkOf s .tables)) v 0)))
+      ∙ table-in-arrays (networkOf s) v (omega (arith, t .nodes)) .rules
+    where
+      R : List Rule
+      R = rulesOf (networkOf s)
+
+      here : getD fs v 0 ≤ length (rulesOf (networkOf s))
+      here = last-le v (omega arith)
+
+  acts-agree : (query : Pattern) (v : ℕ) → v < n → actsIn cs vs ks fs n query v ≡ actAt (networkOf s) query v
+  unfolding actsIn
+  acts-agree query v h = ap (λ (l : List Rule). act l query) (table-at v h)
+
+  acts-lead : (query : Pattern) (v : ℕ) → v < n → leadsIn n (actAt (networkOf s) query v) ≡ true
+  acts-lead query v h = act-leads n (getD (networkOf s .tables) v []) query (every-table (Leads n) (networkOf s .tables) v all-lead)
+
+  pub walk-is : (header start : ℕ) → walkBy (actsIn cs vs ks fs n (headerOf w header)) w n header start ≡ walkOf s header start
+  unfolding walkOf
+  walk-is header start =
+      walk-by-same (actsIn cs vs ks fs n (headerOf w header)) (actAt (networkOf s) (headerOf w header)) n (acts-agree (headerOf w header)) (acts-lead (headerOf w header)) w header start
+      ∙ ap₂ (λ (k m : ℕ). walkBy (actAt (networkOf s) (headerOf k header)) k m header start) (sym (t .width)) (sym (t .nodes))
+      ∙ sym (ap (λ (p : Parsed). walkRead p header start) (t .parsed))

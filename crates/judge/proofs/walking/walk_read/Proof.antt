@@ -1,0 +1,61 @@
+-- `judge::walking::walk_read` meets its contract: 14, then 15, then the walk.
+use mathlib.Core.Path.{sym, ap, _∙_}
+use mathlib.Core.List.{[], _∷_}
+use lib.Pow.{pow-pos}
+use borrow.Author.Needs.{needs}
+use native.Mathlib.Omega.{arith}
+use Rattle.pattern.specs.declared.Pattern.{Pattern}
+use Rattle.pattern.specs.Filters.{headerOf}
+use Rattle.judge.specs.Walking.{walkFrom}
+use Rattle.judge.specs.Steps.{actsIn}
+use Rattle.judge.proofs.WalkSteps.{by-14, by-15, by-walk}
+use Rattle.judge.proofs.walking.walk_read.Statement.{statement}
+use Rattle.judge.proofs.walking.walk_read.Tie as tie
+
+low-ones-requires : tie.Need-low-ones-requires
+low-ones-requires c κs = search needs
+
+cast-most : tie.Need-cast-most
+cast-most c = search needs
+
+returns : tie.Need-returns
+returns c =
+    let a = c .before .before .args in
+    sym (by-14 (actsIn (a .cares .now) (a .values .now) (a .actions .now) (a .firsts .now) (a .nodes) (headerOf (a .width) (a .header))) (a .width) (a .nodes) (a .header) (a .start)
+    (omega (arith, c .if1 .taken, c .before .low-ones .ensures)))
+
+returns-2 : tie.Need-returns-2
+returns-2 c =
+    let a = c .before .before .before .args in
+    sym (by-15 (actsIn (a .cares .now) (a .values .now) (a .actions .now) (a .firsts .now) (a .nodes) (headerOf (a .width) (a .header))) (a .width) (a .nodes) (a .header) (a .start)
+    (omega (arith, c .before .if1 .left, c .before .before .low-ones .ensures, pow-pos (a .width))) (c .if2 .taken))
+
+cast-of-header : tie.Need-cast-of-header
+cast-of-header c = search needs
+
+of-header-requires : tie.Need-of-header-requires
+of-header-requires c κs = search needs
+
+follow-requires : tie.Need-follow-requires
+follow-requires c κs = search needs
+
+returns-3 : tie.Need-returns-3
+returns-3 c =
+    let a = c .before .before .before .before .before .args in
+    c .follow .ensures
+    ∙ ap (λ (q : Pattern). walkFrom (actsIn (a .cares .now) (a .values .now) (a .actions .now) (a .firsts .now) (a .nodes) q) (a .start ∷ []) (a .start) 0 (a .nodes)) (c .before .of-header .ensures)
+    ∙ sym (by-walk (actsIn (a .cares .now) (a .values .now) (a .actions .now) (a .firsts .now) (a .nodes) (headerOf (a .width) (a .header))) (a .width) (a .nodes) (a .header) (a .start)
+    (omega (arith, c .before .before .before .if1 .left, c .before .before .before .before .low-ones .ensures, pow-pos (a .width))) (c .before .before .if2 .left))
+
+pub walk-read-spec : {M : Type 1} → statement M
+walk-read-spec =
+    tie.close
+    (tie.spec
+    low-ones-requires
+    cast-most
+    returns
+    returns-2
+    cast-of-header
+    of-header-requires
+    follow-requires
+    returns-3)

@@ -1,0 +1,6 @@
+-- What a reader must believe of forwarding, the verdict, Judge and Walk; and what the code's steps are (Steps).
+pub mod Forwarding
+pub mod Verdicts
+pub mod Judging
+pub mod Walking
+pub mod Steps

@@ -1,0 +1,2 @@
+-- What the code's steps are.
+pub mod Steps

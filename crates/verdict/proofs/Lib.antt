@@ -1,0 +1,3 @@
+-- What the program needs of Judge's answer.
+pub mod Answer
+pub mod Printed
