@@ -17,7 +17,7 @@ use Rattle.reading.specs.declared.Action.the-variants.{Forward, Drop, Deliver}
 use Rattle.reading.specs.Network.{Network}
 use Rattle.reading.specs.File.{Parsed, accepted, parse}
 use Rattle.reading.specs.Code.{leadsIn}
-use Rattle.reading.proofs.Demand1.{rules-lead, accepted-is-bounded}
+use Rattle.reading.proofs.Demand1.{rules-lead}
 use Rattle.rounds.specs.Rounds.{hops, OnCycle}
 use Rattle.rounds.proofs.Pigeon.{pigeon}
 use Rattle.rounds.proofs.Cycle.{hops-add, ended, live}

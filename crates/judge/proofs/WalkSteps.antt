@@ -2,7 +2,7 @@
 use mathlib.Core.Path.{_≡_, refl, sym, _∙_, ap, subst}
 use mathlib.Core.Bool.{Bool, true, false, _||_}
 use mathlib.Core.List.{List, [], _∷_}
-use Prim.Native.Nat.{ℕ, suc, _+_, _-_, _^_, _≤_, _<_}
+use Prim.Native.Nat.{ℕ, _+_, _-_, _^_, _≤_, _<_}
 use native.Mathlib.Nat.{sub-zero}
 use native.Mathlib.Numerals.{add-one}
 use native.Mathlib.Decide.{ℕ-discrete}
@@ -17,12 +17,10 @@ use Rattle.reading.specs.declared.Action.{Action}
 use Rattle.reading.specs.declared.Action.the-variants.{Forward, Drop, Deliver}
 use Rattle.reading.specs.Network.{act}
 use Rattle.classes.specs.Classes.{patternAt}
+use Rattle.rounds.proofs.Cycle.{fuel}
 use Rattle.judge.specs.declared.WalkAnswer.the-variants.{Refused, Delivered, Dropped, Circling}
 use Rattle.judge.specs.Walking.{isIn, onAction, walkFrom, walkBy}
 use Rattle.judge.specs.Steps.{decoded, rulesAt, actsIn}
-
-less : (m i : ℕ) → i < m → m - i ≡ suc (m - (i + 1))
-less m i h = omega arith
 
 -- ---- an action byte
 
@@ -43,11 +41,11 @@ decoded-forward n b e h = rw (ne-eqb b 65 e, lt-ltb b n h)
 module _ (cs vs ks : List ℕ) (n : ℕ) (query : Pattern) (e i : ℕ) where
   pub act-hit : i < e → true ≡ within query (patternAt cs vs i) → act (rulesAt cs vs ks n i (e - i)) query ≡ decoded n (getD ks i 0)
   unfolding act rulesAt
-  act-hit lt m = rw (less e i lt, ← m)
+  act-hit lt m = rw (fuel e i lt, ← m)
 
   pub act-miss : i < e → false ≡ within query (patternAt cs vs i) → act (rulesAt cs vs ks n i (e - i)) query ≡ act (rulesAt cs vs ks n (i + 1) (e - (i + 1))) query
   unfolding act rulesAt
-  act-miss lt m = rw (less e i lt, ← m, add-one i)
+  act-miss lt m = rw (fuel e i lt, ← m, add-one i)
 
   pub act-none : e ≤ i → act (rulesAt cs vs ks n i (e - i)) query ≡ Drop
   unfolding act rulesAt
@@ -69,19 +67,19 @@ module _ (acts : ℕ → Action) where
   module _ (n : ℕ) (met : List ℕ) (node hops : ℕ) (lt : hops < n) where
     pub on-deliver : acts node ≡ Deliver → walkFrom acts met node hops (n - hops) ≡ Delivered node hops
     unfolding walkFrom onAction
-    on-deliver e = rw (less n hops lt, e)
+    on-deliver e = rw (fuel n hops lt, e)
 
     pub on-drop : acts node ≡ Drop → walkFrom acts met node hops (n - hops) ≡ Dropped node hops
     unfolding walkFrom onAction
-    on-drop e = rw (less n hops lt, e)
+    on-drop e = rw (fuel n hops lt, e)
 
     pub on-circle : (w : ℕ) → acts node ≡ Forward w → isIn w met ≡ true → walkFrom acts met node hops (n - hops) ≡ Circling w (hops + 1)
     unfolding walkFrom onAction
-    on-circle w e i = rw (less n hops lt, e, i, add-one hops)
+    on-circle w e i = rw (fuel n hops lt, e, i, add-one hops)
 
     pub on-forward : (w : ℕ) → acts node ≡ Forward w → isIn w met ≡ false → walkFrom acts met node hops (n - hops) ≡ walkFrom acts (w ∷ met) w (hops + 1) (n - (hops + 1))
     unfolding walkFrom onAction
-    on-forward w e i = rw (less n hops lt, e, i, add-one hops)
+    on-forward w e i = rw (fuel n hops lt, e, i, add-one hops)
 
   pub on-none : (n : ℕ) (met : List ℕ) (node hops : ℕ) → n ≤ hops → walkFrom acts met node hops (n - hops) ≡ Refused 16 0
   unfolding walkFrom

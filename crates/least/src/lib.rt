@@ -3,9 +3,9 @@ use classes::taking;
 use pattern::Pattern;
 ghost use mathlib.Core.Path.{_≡_};
 ghost use mathlib.Core.Bool.{not, _&&_};
-ghost use Prim.Native.Nat.{ℕ, _+_, _-_, _^_, _≤_, _<_};
+ghost use Prim.Native.Nat.{_+_, _-_, _^_, _≤_, _<_};
 ghost use lib.Dec.{eqb};
-ghost use lib.ListN.{length, getD};
+ghost use lib.ListN.{getD};
 ghost use Rattle.pattern.specs.declared.Pattern.{Pattern};
 ghost use Rattle.pattern.specs.Filters.{WellFormed};
 ghost use Rattle.classes.specs.Classes.{patternAt, patternsFrom};
@@ -106,7 +106,22 @@ fn some_marked(counts: &[u64], marks: &[u8], n: usize) -> bool
     false
 }
 
-// Whether a marked class has a header under the prefix.
+// Whether one of the first `n` classes is marked.
+fn any_marked(marks: &[u8], n: usize) -> bool
+    requires { do ⌜ n ≤ (← ⟦marks.len()⟧) ⌝ }
+    ensures { λ r. ⌜ r ≡ someMarked (now (marks .entry)) (now (marks .entry)) 0 n ⌝ }
+{
+    let mut j = 0;
+    while j < n {
+        if marks[j] != 0 {
+            return true;
+        }
+        j = j + 1;
+    }
+    false
+}
+
+// Whether a marked class has a header under the prefix; where none is marked, nothing is counted.
 pub fn some_under(
     cares: &[u32],
     values: &[u32],
@@ -125,8 +140,11 @@ pub fn some_under(
     requires enough { ⌜ Enough width prefix (patternsFrom (now cares) (now values) 0 n) ⌝ }
     ensures { λ r. ⌜ r ≡ someOf (now (marks .entry)) 0 (recount width prefix (patternsFrom (now (cares .entry)) (now (values .entry)) 0 n)) ⌝ }
 {
-    count_under(cares, values, counts, n, width, prefix);
-    some_marked(counts, marks, n)
+    if any_marked(marks, n) {
+        count_under(cares, values, counts, n, width, prefix);
+        return some_marked(counts, marks, n);
+    }
+    false
 }
 
 // Bit `k` alone.

@@ -7,9 +7,13 @@ use native.Mathlib.Decide.{decLt}
 use native.Mathlib.Omega.{arith}
 use lib.Dec.{eqb}
 use borrow.Author.Tests.{eq-eqb, ne-eqb, eqb-true, lt-ltb, le-ltb}
-use Rattle.rounds.specs.Rounds.{hops, OnCycle, GoesRound, backIn, returnsTo}
+use Rattle.rounds.specs.Rounds.{hops, OnCycle, backIn, returnsTo}
 use Rattle.rounds.specs.Rows.{nextOf}
 use Rattle.rounds.proofs.Pigeon.{pigeon, Repeat}
+
+-- what a loop from 0 to n has left at i
+pub fuel : (n i : ℕ) → i < n → n - i ≡ suc (n - (i + 1))
+fuel n i h = omega arith
 
 module _ (f : ℕ → ℕ) where
   pub hops-f : (k v : ℕ) → hops f k (f v) ≡ f (hops f k v)
@@ -57,9 +61,7 @@ module _ (f : ℕ → ℕ) where
       go (suc (suc j)) p q e rec =
           ap (λ b. eqb (f c) v || b) (rec (suc j, omega arith, omega arith, hops-f (suc j) c ∙ e)) ∙ or-true (eqb (f c) v)
 
-  -- the test, a turn at a time, at the fuel that a loop from 0 to n has left
-  pub fuel : (n i : ℕ) → i < n → n - i ≡ suc (n - (i + 1))
-  fuel n i h = omega arith
+  -- the test, a turn at a time
 
   pub back-first : (n v : ℕ) → returnsTo f n v ≡ backIn f v v (n - 0)
   unfolding returnsTo
@@ -134,18 +136,6 @@ module _ (f : ℕ → ℕ) where
     pub on-returns : (v : ℕ) → v < n → OnCycle f v → returnsTo f n v ≡ true
     unfolding returnsTo
     on-returns v lt on = back-of v v n (shorten v lt on)
-
-    -- a path of n hops that never ended has met a node twice
-    pub met-twice : (v : ℕ) → ((i : ℕ) → i ≤ n → hops f i v < n) → Repeat (λ i. hops f i v) n
-    met-twice v h = pigeon n (λ i. hops f i v) h
-
-    -- .. and that header goes round
-    pub twice-round : (v : ℕ) → ((i : ℕ) → i ≤ n → hops f i v < n) → GoesRound f n
-    twice-round v h = go (met-twice v h)
-      where
-        go : Repeat (λ i. hops f i v) n → GoesRound f n
-        go (i, j, less, le, same) =
-            (hops f i v, h i (omega arith), (j - i, omega arith, sym (hops-add (j - i) i v) ∙ ap (λ y. hops f y v) (omega arith) ∙ sym same))
 
 -- a row's own next: an end stays an end
 pub row-ends : (row : _) (n v : ℕ) → n ≤ v → n ≤ nextOf row n v

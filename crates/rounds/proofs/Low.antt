@@ -19,11 +19,11 @@ module _ (f : ℕ → ℕ) (n : ℕ) where
 
   pub low-hit : (v : ℕ) → v < n → returnsTo f n v ≡ true → lowFrom f n v (n - v) ≡ Node v
   unfolding lowFrom
-  low-hit v h e = rw (fuel f n v h, e)
+  low-hit v h e = rw (fuel n v h, e)
 
   pub low-miss : (v : ℕ) → v < n → returnsTo f n v ≡ false → lowFrom f n v (n - v) ≡ lowFrom f n (v + 1) (n - (v + 1))
   unfolding lowFrom
-  low-miss v h e = rw (fuel f n v h, e, add-one v)
+  low-miss v h e = rw (fuel n v h, e, add-one v)
 
   pub low-none : (v : ℕ) → n ≤ v → lowFrom f n v (n - v) ≡ Nowhere
   unfolding lowFrom

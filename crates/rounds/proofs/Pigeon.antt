@@ -2,11 +2,9 @@
 use mathlib.Core.Path.{_≡_, sym, _∙_, ap}
 use mathlib.Core.Logic.{_⊎_, inl, inr}
 use mathlib.Core.Bool.{cond}
-use mathlib.Core.List.{List}
 use Prim.Native.Nat.{ℕ, zero, suc, _≤_, _<_}
 use native.Mathlib.Decide.{ℕ-discrete}
 use native.Mathlib.Omega.{arith}
-use lib.ListN.{length, getD}
 use lib.Dec.{eqb}
 use borrow.Author.Tests.{eq-eqb, ne-eqb}
 
@@ -77,9 +75,3 @@ pigeon (suc m) g h = go (λ g′ h′. pigeon m g′ h′) (findEq g (g (suc m))
     go : ((g′ : ℕ → ℕ) → ((i : ℕ) → i ≤ m → g′ i < m) → Repeat g′ m) → Found g (g (suc m)) (suc m) → Repeat g (suc m)
     go rec (inl w) = (w .0, suc m, w .1, omega arith, w .2)
     go rec (inr none) = back m g h none (rec (λ i. swap m (g (suc m)) (g i)) (less m g h none))
-
--- a list of more than n numbers, all below n, has a repeat
-pub pigeon-list : (n : ℕ) (l : List ℕ) → n < length l → ((i : ℕ) → i < length l → getD l i 0 < n)
-    → (i : ℕ) × (j : ℕ) × (i < j) × (j < length l) × (getD l i 0 ≡ getD l j 0)
-pigeon-list n l long h =
-    let r = pigeon n (λ i. getD l i 0) (λ i le. h i (omega arith)) in (r .0, r .1, r .2, omega arith, r .4)

@@ -1,18 +1,16 @@
 -- Lists that a loop writes, a store at a time; and the cycle's list, a node at a time.
 use mathlib.Core.Path.{_≡_, sym, _∙_, ap, ap₂}
 use mathlib.Core.List.{List, [], _∷_, _++_, append-assoc, append-nil}
-use Prim.Native.Nat.{ℕ, suc, _+_, _-_, _≤_, _<_}
+use Prim.Native.Nat.{ℕ, _+_, _-_, _≤_, _<_}
 use native.Mathlib.Nat.{sub-zero}
 use native.Mathlib.Numerals.{add-one}
 use native.Mathlib.Omega.{arith}
 use lib.ListN.{length, take, drop, set, replicate, take-append-drop, length-set}
 use lib.Seq.{take-suc-set, drop-set-lt, drop-drop, length-take-le, drop-append-add, take-at}
 use borrow.Author.Tests.{eq-eqb, ne-eqb}
+use Rattle.rounds.proofs.Cycle.{fuel}
 use Rattle.rounds.specs.Rounds.{cycleFrom}
 use Rattle.rounds.specs.Rounds.{cycleOf}
-
-less : (m i : ℕ) → i < m → m - i ≡ suc (m - (i + 1))
-less m i h = omega arith
 
 -- the element c stored at i: the list in front of `rest` grows by c
 pub put-more : (l rest : List ℕ) (i c : ℕ) → i < length l → take i l ++ (c ∷ rest) ≡ take (i + 1) (set l i c) ++ rest
@@ -39,7 +37,7 @@ Padded x m l i = take i l ++ (replicate (m - i) x ++ drop m l)
 pub pad-more : (x m : ℕ) (l : List ℕ) (i : ℕ) → i < m → m ≤ length l → Padded x m l i ≡ Padded x m (set l i x) (i + 1)
 unfolding Padded
 pad-more x m l i h le =
-    ap (λ (k : ℕ). take i l ++ (replicate k x ++ drop m l)) (less m i h)
+    ap (λ (k : ℕ). take i l ++ (replicate k x ++ drop m l)) (fuel m i h)
     ∙ put-more l (replicate (m - (i + 1)) x ++ drop m l) i x (omega arith)
     ∙ ap (λ (t : List ℕ). take (i + 1) (set l i x) ++ (replicate (m - (i + 1)) x ++ t)) (sym (drop-set-lt m l i x h))
 
@@ -73,8 +71,8 @@ module _ (f : ℕ → ℕ) where
 
   pub cyc-last : (n i v c : ℕ) → i < n → f c ≡ v → cycleFrom f v c (n - i) ≡ c ∷ []
   unfolding cycleFrom
-  cyc-last n i v c h e = rw (less n i h, eq-eqb (f c) v e)
+  cyc-last n i v c h e = rw (fuel n i h, eq-eqb (f c) v e)
 
   pub cyc-more : (n i v c : ℕ) → i < n → (f c ≡ v → ⊥) → cycleFrom f v c (n - i) ≡ c ∷ cycleFrom f v (f c) (n - (i + 1))
   unfolding cycleFrom
-  cyc-more n i v c h e = rw (less n i h, ne-eqb (f c) v e)
+  cyc-more n i v c h e = rw (fuel n i h, ne-eqb (f c) v e)

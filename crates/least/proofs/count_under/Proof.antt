@@ -1,7 +1,7 @@
 -- `least::count_under` meets its contract. The loop's invariant: the classes from place i on have their counts.
 use mathlib.Core.Path.{_≡_, refl, _∙_}
-use Prim.Native.Nat.{ℕ, _≤_, _-_}
-use lib.ListN.{length, length-set, getD}
+use Prim.Native.Nat.{_≤_, _-_}
+use lib.ListN.{length, length-set}
 use native.Mathlib.Omega.{arith}
 use Rattle.least.proofs.Turns.{Done, done-none, done-all, turn-care, turn-bound, turn-store, back}
 use Rattle.least.proofs.count_under.Statement.{statement}
