@@ -40,44 +40,38 @@ pat c v = record { care = c; value = v }
 row-eq : {a b c d s t : ℕ} → a ≡ b → c ≡ d → s ≡ t → entry (pat a c) s ≡ entry (pat b d) t
 row-eq e f g = λ i. entry (pat (e i) (f i)) (g i)
 
--- patternsFrom that stand one place later
-pub rows-up : (cs vs ns cs′ vs′ ns′ : List ℕ) (j m : ℕ)
-    → ((k : ℕ) → j ≤ k → k < j + m → getD cs′ (suc k) 0 ≡ getD cs k 0) → ((k : ℕ) → j ≤ k → k < j + m → getD vs′ (suc k) 0 ≡ getD vs k 0)
-    → ((k : ℕ) → j ≤ k → k < j + m → getD ns′ (suc k) 0 ≡ getD ns k 0) → rows cs′ vs′ ns′ (suc j) m ≡ rows cs vs ns j m
-unfolding rows
-rows-up cs vs ns cs′ vs′ ns′ j zero a b c = refl
-rows-up cs vs ns cs′ vs′ ns′ j (suc m) a b c =
-    ap₂ (λ (x : Entry) (l : List Entry). x ∷ l)
-    (row-eq (a j (le-refl j) (omega arith)) (b j (le-refl j) (omega arith)) (c j (le-refl j) (omega arith)))
-    (rows-up cs vs ns cs′ vs′ ns′ (suc j) m (λ k l h. a k (omega arith) (omega arith)) (λ k l h. b k (omega arith) (omega arith)) (λ k l h. c k (omega arith) (omega arith)))
+-- the m numbers from j on stand at the places that φ says
+abbrev Found : (ℕ → ℕ) → ℕ → ℕ → List ℕ → List ℕ → Type 0
+Found φ j m b a = (k : ℕ) → j ≤ k → k < j + m → getD b (φ k) 0 ≡ getD a k 0
 
-pub rows-ext : (cs vs ns cs′ vs′ ns′ : List ℕ) (j m : ℕ)
-    → ((k : ℕ) → j ≤ k → k < j + m → getD cs′ k 0 ≡ getD cs k 0) → ((k : ℕ) → j ≤ k → k < j + m → getD vs′ k 0 ≡ getD vs k 0)
-    → ((k : ℕ) → j ≤ k → k < j + m → getD ns′ k 0 ≡ getD ns k 0) → rows cs′ vs′ ns′ j m ≡ rows cs vs ns j m
+-- where φ keeps neighbours together, so do the entries
+rows-found : (φ : ℕ → ℕ) → ((k : ℕ) → suc (φ k) ≡ φ (suc k)) → (cs vs ns cs′ vs′ ns′ : List ℕ) (j m : ℕ)
+    → Found φ j m cs′ cs → Found φ j m vs′ vs → Found φ j m ns′ ns → rows cs′ vs′ ns′ (φ j) m ≡ rows cs vs ns j m
 unfolding rows
-rows-ext cs vs ns cs′ vs′ ns′ j zero a b c = refl
-rows-ext cs vs ns cs′ vs′ ns′ j (suc m) a b c =
+rows-found φ e cs vs ns cs′ vs′ ns′ j zero a b c = refl
+rows-found φ e cs vs ns cs′ vs′ ns′ j (suc m) a b c =
     ap₂ (λ (x : Entry) (l : List Entry). x ∷ l)
     (row-eq (a j (le-refl j) (omega arith)) (b j (le-refl j) (omega arith)) (c j (le-refl j) (omega arith)))
-    (rows-ext cs vs ns cs′ vs′ ns′ (suc j) m (λ k l h. a k (omega arith) (omega arith)) (λ k l h. b k (omega arith) (omega arith)) (λ k l h. c k (omega arith) (omega arith)))
+    (ap (λ (x : ℕ). rows cs′ vs′ ns′ x m) (e j) ∙ rows-found φ e cs vs ns cs′ vs′ ns′ (suc j) m (tail cs′ cs a) (tail vs′ vs b) (tail ns′ ns c))
+  where
+    tail : (y x : List ℕ) → Found φ j (suc m) y x → Found φ (suc j) m y x
+    tail y x h k l u = h k (omega arith) (omega arith)
+
+rows-up : (cs vs ns cs′ vs′ ns′ : List ℕ) (j m : ℕ) → Found suc j m cs′ cs → Found suc j m vs′ vs → Found suc j m ns′ ns
+    → rows cs′ vs′ ns′ (suc j) m ≡ rows cs vs ns j m
+rows-up = rows-found suc (λ k. refl)
+
+pub rows-ext : (cs vs ns cs′ vs′ ns′ : List ℕ) (j m : ℕ) → Found (λ k. k) j m cs′ cs → Found (λ k. k) j m vs′ vs → Found (λ k. k) j m ns′ ns
+    → rows cs′ vs′ ns′ j m ≡ rows cs vs ns j m
+rows-ext = rows-found (λ k. k) (λ k. refl)
 
 -- ---- sums
 
-pub sum-step : (t : Pattern → Bool) (cs vs ns : List ℕ) (j n : ℕ) → j < n
-    → sumIf t (rows cs vs ns j (n - j)) ≡ cond (t (patternAt cs vs j)) (getD ns j 0) 0 + sumIf t (rows cs vs ns (j + 1) (n - (j + 1)))
-sum-step t cs vs ns j n h =
+pub sum-step : (t : Pattern → Bool) (cs vs ns : List ℕ) (j n : ℕ) → j < n → (b : Bool) → b ≡ t (patternAt cs vs j)
+    → sumIf t (rows cs vs ns j (n - j)) ≡ cond b (getD ns j 0) 0 + sumIf t (rows cs vs ns (j + 1) (n - (j + 1)))
+sum-step t cs vs ns j n h b e =
     ap (sumIf t) (rows-step cs vs ns j n h)
-    ∙ ap (λ (x : ℕ). cond (t (patternAt cs vs j)) (getD ns j 0) 0 + sumIf t (rows cs vs ns x (n - x))) (sym (add-one j))
-
-pub sum-in : (t : Pattern → Bool) (cs vs ns : List ℕ) (j n : ℕ) → j < n → true ≡ t (patternAt cs vs j)
-    → sumIf t (rows cs vs ns j (n - j)) ≡ getD ns j 0 + sumIf t (rows cs vs ns (j + 1) (n - (j + 1)))
-sum-in t cs vs ns j n h e =
-    sum-step t cs vs ns j n h ∙ ap (λ (b : Bool). cond b (getD ns j 0) 0 + sumIf t (rows cs vs ns (j + 1) (n - (j + 1)))) (sym e)
-
-pub sum-out : (t : Pattern → Bool) (cs vs ns : List ℕ) (j n : ℕ) → j < n → false ≡ t (patternAt cs vs j)
-    → sumIf t (rows cs vs ns j (n - j)) ≡ 0 + sumIf t (rows cs vs ns (j + 1) (n - (j + 1)))
-sum-out t cs vs ns j n h e =
-    sum-step t cs vs ns j n h ∙ ap (λ (b : Bool). cond b (getD ns j 0) 0 + sumIf t (rows cs vs ns (j + 1) (n - (j + 1)))) (sym e)
+    ∙ ap₂ (λ (x : Bool) (k : ℕ). cond x (getD ns j 0) 0 + sumIf t (rows cs vs ns k (n - k))) (sym e) (sym (add-one j))
 
 pub sum-end : (t : Pattern → Bool) (cs vs ns : List ℕ) (j n : ℕ) → n ≤ j → sumIf t (rows cs vs ns j (n - j)) ≡ 0
 sum-end t cs vs ns j n h = ap (sumIf t) (rows-end cs vs ns j n h)
@@ -86,11 +80,11 @@ sum-end t cs vs ns j n h = ap (sumIf t) (rows-end cs vs ns j n h)
 pub size-le : (cs vs ns : List ℕ) (d i r n : ℕ) → i + d ≡ r → r < n → getD ns r 0 ≤ sumIf (λ p. true) (rows cs vs ns i (n - i))
 size-le cs vs ns zero i r n e h =
     let ir : i ≡ r = omega arith in
-    omega (arith, sum-in (λ p. true) cs vs ns i n (omega arith) refl, ap (λ (k : ℕ). getD ns k 0) ir)
+    omega (arith, sum-step (λ p. true) cs vs ns i n (omega arith) true refl, ap (λ (k : ℕ). getD ns k 0) ir)
 size-le cs vs ns (suc d) i r n e h =
     omega (
       arith,
-      sum-in (λ p. true) cs vs ns i n (omega arith) refl,
+      sum-step (λ p. true) cs vs ns i n (omega arith) true refl,
       ap (λ (k : ℕ). sumIf (λ p. true) (rows cs vs ns k (n - k))) (add-one i),
       size-le cs vs ns d (suc i) r n (omega arith) h,
     )

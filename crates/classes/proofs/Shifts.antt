@@ -1,4 +1,4 @@
--- The loops over one list, for numbers of any width: an insertion, a removal and a clearing under way.
+-- What a loop does to one list, for numbers of any width: an insertion, a removal and a clearing under way.
 use mathlib.Core.Path.{_≡_, refl, sym, ap, _∙_, subst}
 use mathlib.Core.Logic.{_⊎_, inl, inr}
 use mathlib.Core.List.{List, [], _∷_, _++_, append-nil}
@@ -158,19 +158,19 @@ set-length b a i x e = length-set b i x ∙ e
 pub rising-start : (n : ℕ) (a : List ℕ) → Rising n n a a
 rising-start n a = record { same-length = refl; low = λ j h. refl; up = λ j h l. absurd (omega arith); rest = λ j h. refl }
 
-pub rising-step : (j k n : ℕ) (b a : List ℕ) → j + 1 ≡ k → k ≤ n → n < length a → Rising k n b a → Rising j n (set b (j + 1) (getD b j 0)) a
+pub rising-step : (j k n : ℕ) (b a : List ℕ) → j + 1 ≡ k → k ≤ n → n < length a → Rising k n b a → Rising j n (set b k (getD b j 0)) a
 rising-step j k n b a e h l r = record {
-  same-length = set-length b a (j + 1) (getD b j 0) (r .same-length);
-  low = λ m g. getD-set-other b (j + 1) m (getD b j 0) 0 (omega arith) ∙ r .low m (omega arith);
+  same-length = set-length b a k (getD b j 0) (r .same-length);
+  low = λ m g. getD-set-other b k m (getD b j 0) 0 (omega arith) ∙ r .low m (omega arith);
   up = λ m g u. go m u (eq-or-lt-of-le g);
-  rest = λ m g. getD-set-other b (j + 1) m (getD b j 0) 0 (omega arith) ∙ r .rest m g;
+  rest = λ m g. getD-set-other b k m (getD b j 0) 0 (omega arith) ∙ r .rest m g;
 }
   where
-    go : (m : ℕ) → m < n → (j ≡ m) ⊎ (j < m) → getD (set b (j + 1) (getD b j 0)) (suc m) 0 ≡ getD a m 0
+    go : (m : ℕ) → m < n → (j ≡ m) ⊎ (j < m) → getD (set b k (getD b j 0)) (suc m) 0 ≡ getD a m 0
     go m u (inl q) =
-        subst (λ (x : ℕ). getD (set b (j + 1) (getD b j 0)) x 0 ≡ getD a m 0) (add-one j ∙ ap suc q)
-        (getD-set-same b (j + 1) (getD b j 0) 0 (omega (arith, r .same-length)) ∙ r .low j (omega arith) ∙ ap (λ (x : ℕ). getD a x 0) q)
-    go m u (inr q) = getD-set-other b (j + 1) (suc m) (getD b j 0) 0 (omega arith) ∙ r .up m (omega arith) u
+        subst (λ (x : ℕ). getD (set b k (getD b j 0)) x 0 ≡ getD a m 0) (sym e ∙ add-one j ∙ ap suc q)
+        (getD-set-same b k (getD b j 0) 0 (omega (arith, r .same-length)) ∙ r .low j (omega arith) ∙ ap (λ (x : ℕ). getD a x 0) q)
+    go m u (inr q) = getD-set-other b k (suc m) (getD b j 0) 0 (omega arith) ∙ r .up m (omega arith) u
 
 pub rising-end : (i k n x : ℕ) (b a : List ℕ) → i ≤ k → k ≤ i → i ≤ n → n < length a → Rising k n b a → set b i x ≡ inserted i n x a
 rising-end i k n x b a h g l m r = inserted-only i n x a l m (set b i x) (set-length b a i x (r .same-length)) (record {
@@ -210,12 +210,19 @@ falling-step i k n b a h g l r = record {
 pub falling-end : (i k n : ℕ) (b a : List ℕ) → i < n → n ≤ length a → n ≤ k + 1 → k < n → Falling i k n b a → b ≡ removed i n a
 falling-end i k n b a m l h g r = removed-only i n a m l b (r .same-length) (record { low = r .low; down = λ j u v. r .down j u (omega arith); rest = λ j u. r .rest j (omega arith) })
 
--- ---- the loop that clears: what is cleared so far
+-- ---- the loop that clears
 
-pub wiped-start : (i : ℕ) (a : List ℕ) → a ≡ wiped i i a
+-- a clearing under way: those from i to before k are cleared
+pub record Clearing (i k : ℕ) (b a : List ℕ) : Type 0 where
+  pub same-length : length b ≡ length a
+  pub is : b ≡ wiped i k a
+
+pub clearing-start : (i : ℕ) (a : List ℕ) → Clearing i i a a
 unfolding wiped
-wiped-start i a =
-    sym (ap (λ (n : ℕ). take i a ++ replicate n 0 ++ drop i a) (sub-self i) ∙ ap (λ (r : List ℕ). r ++ drop i a) (append-nil (take i a)) ∙ take-append-drop i a)
+clearing-start i a = record {
+  same-length = refl;
+  is = sym (ap (λ (n : ℕ). take i a ++ replicate n 0 ++ drop i a) (sub-self i) ∙ ap (λ (r : List ℕ). r ++ drop i a) (append-nil (take i a)) ∙ take-append-drop i a);
+}
 
 -- the places from i to k are cleared one after another
 wiped-more : (i k : ℕ) (a : List ℕ) → i ≤ k → k < length a → set (wiped i k a) k 0 ≡ wiped i (suc k) a
@@ -238,9 +245,11 @@ wiped-more zero (suc k) [] h l = absurd (not-suc-le-zero l)
 wiped-more (suc i) zero [] h l = absurd (not-suc-le-zero l)
 wiped-more (suc i) (suc k) [] h l = absurd (not-suc-le-zero l)
 
-pub wiped-step : (i k : ℕ) (b a : List ℕ) → i ≤ k → k < length a → b ≡ wiped i k a → set b k 0 ≡ wiped i (k + 1) a
-wiped-step i k b a h l e =
-    ap (λ (x : List ℕ). set x k 0) e ∙ wiped-more i k a h l ∙ ap (λ (n : ℕ). wiped i n a) (sym (add-one k))
+pub clearing-step : (i k : ℕ) (b a : List ℕ) → i ≤ k → k < length a → Clearing i k b a → Clearing i (k + 1) (set b k 0) a
+clearing-step i k b a h l r = record {
+  same-length = set-length b a k 0 (r .same-length);
+  is = ap (λ (x : List ℕ). set x k 0) (r .is) ∙ wiped-more i k a h l ∙ ap (λ (n : ℕ). wiped i n a) (sym (add-one k));
+}
 
-pub wiped-end : (i k n : ℕ) (b a : List ℕ) → k ≤ n → n ≤ k → b ≡ wiped i k a → b ≡ wiped i n a
-wiped-end i k n b a h g e = e ∙ ap (λ (x : ℕ). wiped i x a) (omega arith)
+pub clearing-end : (i k n : ℕ) (b a : List ℕ) → k ≤ n → n ≤ k → Clearing i k b a → b ≡ wiped i n a
+clearing-end i k n b a h g r = r .is ∙ ap (λ (x : ℕ). wiped i x a) (omega arith)

@@ -16,11 +16,27 @@ use Rattle.pattern.specs.declared.Pattern.{Pattern}
 use Rattle.pattern.specs.Filters.{within, common, held}
 use Rattle.pattern.proofs.Tests.{eq→eqb, both}
 use Rattle.classes.specs.Classes.{same, Entry, entry, tally, patternAt}
-use Rattle.classes.specs.Steps.{inserted, removed, Room, sumIf, inside, moved, cut, siftOne, sift, cover, takenIn, SoundOne, Sound, row, rows, Placed, Kept, Became, Took}
+use Rattle.classes.specs.Steps.{inserted, removed, Room, Changed, Each, SameFrom, sumIf, inside, moved, cut, siftOne, sift, cover, takenIn, SoundOne, Sound, row, rows, Placed, Kept, Became, Took}
 use Rattle.classes.proofs.Shifts.{Inserted, Removed, inserted-says, removed-says}
 use Rattle.classes.proofs.Order.{is-true, is-false, same-says, before-total}
 use Rattle.classes.proofs.Rows.{rows-step, rows-end, pat, rows-ext, size-le, tally-insert, tally-add, removed-rows}
 use borrow.Author.Tests.{eq-eqb, ne-eqb}
+
+-- ---- all three lists at once
+
+abbrev pub SameLength : List ℕ → List ℕ → Type 0
+SameLength b a = length b ≡ length a
+
+pub each-refl : (R : List ℕ → List ℕ → Type 0) → ((a : List ℕ) → R a a) → (cs vs ns : List ℕ) → Each R cs vs ns cs vs ns
+each-refl R h cs vs ns = record { cares = h cs; values = h vs; sizes = h ns }
+
+pub each-then : (P Q R : List ℕ → List ℕ → Type 0) → ((c b a : List ℕ) → P c b → Q b a → R c a) → (cs″ vs″ ns″ cs′ vs′ ns′ cs vs ns : List ℕ)
+    → Each P cs″ vs″ ns″ cs′ vs′ ns′ → Each Q cs′ vs′ ns′ cs vs ns → Each R cs″ vs″ ns″ cs vs ns
+each-then P Q R h cs″ vs″ ns″ cs′ vs′ ns′ cs vs ns p q = record {
+  cares = h cs″ cs′ cs (p .cares) (q .cares);
+  values = h vs″ vs′ vs (p .values) (q .values);
+  sizes = h ns″ ns′ ns (p .sizes) (q .sizes);
+}
 
 -- ---- places that stay
 
@@ -52,9 +68,7 @@ add-there p x cs vs ns i n r small len pl t = record {
       (r - i) i (gap i r (pl .from)) (pl .passed);
   from = omega (arith, pl .from, pl .upto);
   one-more = omega arith;
-  cares = kept-refl i cs;
-  values = kept-refl i vs;
-  sizes = kept-set i r (getD ns r 0 + x) ns (pl .from) (omega (arith, rn));
+  kept = record { cares = kept-refl i cs; values = kept-refl i vs; sizes = kept-set i r (getD ns r 0 + x) ns (pl .from) (omega (arith, rn)) };
 }
   where
     s : T (ltb r n) × T (same (patternAt cs vs r) p)
@@ -70,9 +84,9 @@ add-fits p cs vs ns i n r pl t =
     size-le cs vs ns (r - i) i r n (gap i r (pl .from)) (ltb→lt r n (both (ltb r n) (same (patternAt cs vs r) p) .0 (subst T t tt) .0))
 
 pub add-new : (p : Pattern) (x : ℕ) (cs vs ns cs′ vs′ ns′ : List ℕ) (i n r : ℕ) → Room cs vs ns → n < 1024 → Placed p cs vs i n r
-    → false ≡ ltb r n && same (patternAt cs vs r) p → cs′ ≡ inserted r n (p .care) cs → vs′ ≡ inserted r n (p .value) vs → ns′ ≡ inserted r n x ns
+    → false ≡ ltb r n && same (patternAt cs vs r) p → Changed (inserted r n (p .care)) (inserted r n (p .value)) (inserted r n x) cs′ vs′ ns′ cs vs ns
     → Became i n (n + 1) cs′ vs′ ns′ cs vs ns (tally p x (rows cs vs ns i (n - i)))
-add-new p x cs vs ns cs′ vs′ ns′ i n r room small pl t ec ev en = record {
+add-new p x cs vs ns cs′ vs′ ns′ i n r room small pl t put = record {
   is = subst (λ (m : ℕ). rows cs′ vs′ ns′ i (m - i) ≡ tally p x (rows cs vs ns i (n - i))) (sym (add-one n))
       (tally-insert p x cs vs ns cs′ vs′ ns′ r n (pl .upto) ic iv iz
       (λ h. before-total (patternAt cs vs r) p (pl .stop h)
@@ -80,19 +94,21 @@ add-new p x cs vs ns cs′ vs′ ns′ i n r room small pl t ec ev en = record {
       (r - i) i (gap i r (pl .from)) (pl .passed));
   from = omega (arith, pl .from, pl .upto);
   one-more = omega arith;
-  cares = kept-inserted i r n (p .care) cs′ cs (pl .from) small ic;
-  values = kept-inserted i r n (p .value) vs′ vs (pl .from) small iv;
-  sizes = kept-inserted i r n x ns′ ns (pl .from) small iz;
+  kept = record {
+    cares = kept-inserted i r n (p .care) cs′ cs (pl .from) small ic;
+    values = kept-inserted i r n (p .value) vs′ vs (pl .from) small iv;
+    sizes = kept-inserted i r n x ns′ ns (pl .from) small iz;
+  };
 }
   where
     ic : Inserted r n (p .care) cs′ cs
-    ic = inserted-says r n (p .care) cs (pl .upto) (omega (arith, room .cares)) cs′ ec
+    ic = inserted-says r n (p .care) cs (pl .upto) (omega (arith, room .cares)) cs′ (put .cares)
 
     iv : Inserted r n (p .value) vs′ vs
-    iv = inserted-says r n (p .value) vs (pl .upto) (omega (arith, room .values)) vs′ ev
+    iv = inserted-says r n (p .value) vs (pl .upto) (omega (arith, room .values)) vs′ (put .values)
 
     iz : Inserted r n x ns′ ns
-    iz = inserted-says r n x ns (pl .upto) (omega (arith, room .sizes)) ns′ en
+    iz = inserted-says r n x ns (pl .upto) (omega (arith, room .sizes)) ns′ (put .sizes)
 
 -- ---- move_part
 
@@ -113,24 +129,20 @@ module _ (r : Pattern) (k : ℕ) (cs vs ns : List ℕ) (i m : ℕ) (im : i < m) 
     is = rows-first cs vs ns i m im ∙ sym (pick true (eqb k (getD ns i 0)) (is-true (eqb k 0) (eq→eqb e)) refl);
     from = omega arith;
     one-more = omega arith;
-    cares = kept-refl i cs;
-    values = kept-refl i vs;
-    sizes = kept-refl i ns;
+    kept = each-refl (Kept i) (kept-refl i) cs vs ns;
   }
 
   -- the entry is taken out of all three lists
-  module _ (cs₁ vs₁ ns₁ : List ℕ) (ec : cs₁ ≡ removed i m cs) (ev : vs₁ ≡ removed i m vs) (en : ns₁ ≡ removed i m ns) where
-    rc : Removed i m cs₁ cs
-    rc = removed-says i m cs im (omega (arith, room .cares)) cs₁ ec
-
-    rv : Removed i m vs₁ vs
-    rv = removed-says i m vs im (omega (arith, room .values)) vs₁ ev
-
-    rn : Removed i m ns₁ ns
-    rn = removed-says i m ns im (omega (arith, room .sizes)) ns₁ en
+  module _ (cs₁ vs₁ ns₁ : List ℕ) (gone : Changed (removed i m) (removed i m) (removed i m) cs₁ vs₁ ns₁ cs vs ns) where
+    out : Each (Removed i m) cs₁ vs₁ ns₁ cs vs ns
+    out = record {
+      cares = removed-says i m cs im (omega (arith, room .cares)) cs₁ (gone .cares);
+      values = removed-says i m vs im (omega (arith, room .values)) vs₁ (gone .values);
+      sizes = removed-says i m ns im (omega (arith, room .sizes)) ns₁ (gone .sizes);
+    }
 
     pub removed-is : rows cs₁ vs₁ ns₁ i (m - 1 - i) ≡ M
-    removed-is = removed-rows cs vs ns cs₁ vs₁ ns₁ i m im rc rv rn ∙ ap (λ (x : ℕ). rows cs vs ns x (m - x)) (sym (add-one i))
+    removed-is = removed-rows cs vs ns cs₁ vs₁ ns₁ i m im (out .cares) (out .values) (out .sizes) ∙ ap (λ (x : ℕ). rows cs vs ns x (m - x)) (sym (add-one i))
 
     pub moved-whole : (cs₂ vs₂ ns₂ : List ℕ) (n : ℕ) → (k ≡ 0 → ⊥) → k ≡ getD ns i 0
         → Became i (m - 1) n cs₂ vs₂ ns₂ cs₁ vs₁ ns₁ (tally r k (rows cs₁ vs₁ ns₁ i (m - 1 - i)))
@@ -140,9 +152,7 @@ module _ (r : Pattern) (k : ℕ) (cs vs ns : List ℕ) (i m : ℕ) (im : i < m) 
           ∙ sym (pick false true (is-false (eqb k 0) (λ u. z (eqb→eq k 0 u))) (is-true (eqb k (getD ns i 0)) (eq→eqb e)));
       from = t .from;
       one-more = omega (arith, t .one-more);
-      cares = kept-trans i i cs₂ cs₁ cs (le-refl i) (t .cares) (kept-removed i m cs₁ cs small rc);
-      values = kept-trans i i vs₂ vs₁ vs (le-refl i) (t .values) (kept-removed i m vs₁ vs small rv);
-      sizes = kept-trans i i ns₂ ns₁ ns (le-refl i) (t .sizes) (kept-removed i m ns₁ ns small rn);
+      kept = each-then (Kept i) (Removed i m) (Kept i) (λ c b a p q. kept-trans i i c b a (le-refl i) p (kept-removed i m b a small q)) cs₂ vs₂ ns₂ cs₁ vs₁ ns₁ cs vs ns (t .kept) out;
     }
 
   pub set-is : (x : ℕ) → rows cs vs (set ns i x) (i + 1) (m - (i + 1)) ≡ M
@@ -159,19 +169,18 @@ module _ (r : Pattern) (k : ℕ) (cs vs ns : List ℕ) (i m : ℕ) (im : i < m) 
         ∙ sym (pick false false (is-false (eqb k 0) (λ u. z (eqb→eq k 0 u))) (is-false (eqb k (getD ns i 0)) (λ u. e (eqb→eq k (getD ns i 0) u))));
     from = omega (arith, t .from);
     one-more = t .one-more;
-    cares = kept-trans i (i + 1) cs₂ cs cs (omega arith) (t .cares) (kept-refl i cs);
-    values = kept-trans i (i + 1) vs₂ vs vs (omega arith) (t .values) (kept-refl i vs);
-    sizes = kept-trans i (i + 1) ns₂ (set ns i (getD ns i 0 - k)) ns (omega arith) (t .sizes) (kept-set i i (getD ns i 0 - k) ns (le-refl i) (omega arith));
+    kept = each-then (Kept (i + 1)) (Kept i) (Kept i) (λ c b a p q. kept-trans i (i + 1) c b a (omega arith) p q) cs₂ vs₂ ns₂ cs vs (set ns i (getD ns i 0 - k)) cs vs ns (t .kept)
+        (record { cares = kept-refl i cs; values = kept-refl i vs; sizes = kept-set i i (getD ns i 0 - k) ns (le-refl i) (omega arith) });
   }
     where
       here : i < i + 1
       here = omega arith
 
       size : getD ns₂ i 0 ≡ getD ns i 0 - k
-      size = t .sizes .low i here ∙ getD-set-same ns i (getD ns i 0 - k) 0 (omega (arith, room .sizes))
+      size = t .kept .sizes .low i here ∙ getD-set-same ns i (getD ns i 0 - k) 0 (omega (arith, room .sizes))
 
       head : row cs₂ vs₂ ns₂ i ≡ entry (patternAt cs vs i) (getD ns i 0 - k)
-      head = λ j. entry (pat (t .cares .low i here j) (t .values .low i here j)) (size j)
+      head = λ j. entry (pat (t .kept .cares .low i here j) (t .kept .values .low i here j)) (size j)
 
 -- ---- sift_one
 
@@ -190,9 +199,7 @@ module _ (w : ℕ) (f : Pattern) (cs vs ns : List ℕ) (i m : ℕ) (im : i < m) 
     is = rows-first cs vs ns i m im ∙ sym (sift-pick false e);
     from = omega arith;
     one-more = omega arith;
-    cares = kept-refl i cs;
-    values = kept-refl i vs;
-    sizes = kept-refl i ns;
+    kept = each-refl (Kept i) (kept-refl i) cs vs ns;
   }
 
   pub sift-moves : (cs₂ vs₂ ns₂ : List ℕ) (n k : ℕ) (q : Pattern) → cut (patternAt cs vs i) f ≡ true → q ≡ common (patternAt cs vs i) f → k ≡ inside w q rest
@@ -210,14 +217,15 @@ pub record Parting (w : ℕ) (q : Pattern) (size : ℕ) (M : List Entry) : Type 
   pub few : held w q ≤ 2 ^ 32
   pub total : sumIf (λ p. true) M ≤ 2 ^ 32
 
-pub parting : (w : ℕ) (f : Pattern) (e : Entry) (M : List Entry) (q : Pattern) → w ≤ 32 → f .care < 2 ^ w → SoundOne w f e M
-    → true ≡ cut (e .pat) f → q ≡ common (e .pat) f → Parting w q (e .size) M
-parting w f e M q short bits s c part =
-    subst (λ (r : Pattern). Parting w r (e .size) M) (sym part) (record {
-      bits = or-lt w (e .pat .care) (f .care) (s .bits) bits;
+pub parting : (w : ℕ) (f : Pattern) (cs vs ns : List ℕ) (i m : ℕ) (q : Pattern)
+    → (w ≤ 32) × ((f .care < 2 ^ w) × SoundOne w f (row cs vs ns i) (rows cs vs ns (i + 1) (m - (i + 1))))
+    → true ≡ cut (patternAt cs vs i) f → q ≡ common (patternAt cs vs i) f → Parting w q (getD ns i 0) (rows cs vs ns (i + 1) (m - (i + 1)))
+parting w f cs vs ns i m q (short, (bits, s)) c part =
+    subst (λ (r : Pattern). Parting w r (getD ns i 0) (rows cs vs ns (i + 1) (m - (i + 1)))) (sym part) (record {
+      bits = or-lt w (getD cs i 0) (f .care) (s .bits) bits;
       held-more = s .held-more (subst T c tt);
       size-more = s .size-more (subst T c tt);
-      few = pow-mono {i = w - ones (bitOr (e .pat .care) (f .care))} {j = 32} (omega arith);
+      few = pow-mono {i = w - ones (bitOr (getD cs i 0) (f .care))} {j = 32} (omega arith);
       total = le-trans (s .total) (pow-mono {i = w} {j = 32} short);
     })
 
@@ -229,12 +237,8 @@ pub record Sifting (w : ℕ) (f : Pattern) (i n m : ℕ) (cs′ vs′ ns′ cs v
   pub old : i ≤ n
   pub from : i ≤ m
   pub room : m + i ≤ n + n
-  pub len-cares : length cs′ ≡ length cs
-  pub len-values : length vs′ ≡ length vs
-  pub len-sizes : length ns′ ≡ length ns
-  pub cares : Kept i cs′ cs
-  pub values : Kept i vs′ vs
-  pub sizes : Kept i ns′ ns
+  pub lengths : Each SameLength cs′ vs′ ns′ cs vs ns
+  pub kept : Each (Kept i) cs′ vs′ ns′ cs vs ns
 
 pub sifting-start : (w : ℕ) (f : Pattern) (n : ℕ) (cs vs ns : List ℕ) → Sifting w f n n n cs vs ns cs vs ns
 sifting-start w f n cs vs ns = record {
@@ -242,12 +246,8 @@ sifting-start w f n cs vs ns = record {
   old = le-refl n;
   from = le-refl n;
   room = le-refl (n + n);
-  len-cares = refl;
-  len-values = refl;
-  len-sizes = refl;
-  cares = kept-refl n cs;
-  values = kept-refl n vs;
-  sizes = kept-refl n ns;
+  lengths = each-refl SameLength (λ a. refl) cs vs ns;
+  kept = each-refl (Kept n) (kept-refl n) cs vs ns;
 }
 
 sound-from : (w : ℕ) (f : Pattern) (cs vs ns : List ℕ) (n d : ℕ) → d ≤ n → Sound w f (rows cs vs ns 0 n) → Sound w f (rows cs vs ns d (n - d))
@@ -262,7 +262,7 @@ module _ (w : ℕ) (f : Pattern) (j i n m : ℕ) (cs′ vs′ ns′ cs vs ns : L
   jn = omega (arith, inv .old)
 
   head-is : row cs′ vs′ ns′ j ≡ row cs vs ns j
-  head-is = λ x. entry (pat (inv .cares .low j (omega arith) x) (inv .values .low j (omega arith) x)) (inv .sizes .low j (omega arith) x)
+  head-is = λ x. entry (pat (inv .kept .cares .low j (omega arith) x) (inv .kept .values .low j (omega arith) x)) (inv .kept .sizes .low j (omega arith) x)
 
   rest-is : rows cs′ vs′ ns′ (j + 1) (m - (j + 1)) ≡ sift w f (rows cs vs ns (suc j) (n - suc j))
   rest-is =
@@ -277,20 +277,16 @@ module _ (w : ℕ) (f : Pattern) (j i n m : ℕ) (cs′ vs′ ns′ cs vs ns : L
       top : Sound w f (row cs vs ns j ∷ rows cs vs ns (suc j) (n - suc j)) → SoundOne w f (row cs vs ns j) (sift w f (rows cs vs ns (suc j) (n - suc j)))
       top t = t .0
 
-  pub sifting-step : (r : ℕ) (cs₂ vs₂ ns₂ : List ℕ) → length cs₂ ≡ length cs′ → length vs₂ ≡ length vs′ → length ns₂ ≡ length ns′
+  pub sifting-step : (r : ℕ) (cs₂ vs₂ ns₂ : List ℕ) → Each SameLength cs₂ vs₂ ns₂ cs′ vs′ ns′
       → Became j m r cs₂ vs₂ ns₂ cs′ vs′ ns′ (siftOne w f (row cs′ vs′ ns′ j) (rows cs′ vs′ ns′ (j + 1) (m - (j + 1))))
       → Sifting w f j n r cs₂ vs₂ ns₂ cs vs ns
-  sifting-step r cs₂ vs₂ ns₂ lc lv ln t = record {
+  sifting-step r cs₂ vs₂ ns₂ l t = record {
     is = t .is ∙ ap₂ (siftOne w f) head-is rest-is ∙ sym (ap (sift w f) (rows-step cs vs ns j n jn));
     old = le-of-suc-le jn;
     from = t .from;
     room = omega (arith, t .one-more, inv .room);
-    len-cares = lc ∙ inv .len-cares;
-    len-values = lv ∙ inv .len-values;
-    len-sizes = ln ∙ inv .len-sizes;
-    cares = kept-trans j j cs₂ cs′ cs (le-refl j) (t .cares) (less cs′ cs (inv .cares));
-    values = kept-trans j j vs₂ vs′ vs (le-refl j) (t .values) (less vs′ vs (inv .values));
-    sizes = kept-trans j j ns₂ ns′ ns (le-refl j) (t .sizes) (less ns′ ns (inv .sizes));
+    lengths = each-then SameLength SameLength SameLength (λ c b a p q. p ∙ q) cs₂ vs₂ ns₂ cs′ vs′ ns′ cs vs ns l (inv .lengths);
+    kept = each-then (Kept j) (Kept i) (Kept j) (λ c b a p q. kept-trans j j c b a (le-refl j) p (less b a q)) cs₂ vs₂ ns₂ cs′ vs′ ns′ cs vs ns (t .kept) (inv .kept);
   }
     where
       less : (b a : List ℕ) → Kept i b a → Kept j b a
@@ -311,9 +307,7 @@ pub sifting-took : (w : ℕ) (f : Pattern) (i n m : ℕ) (cs′ vs′ ns′ cs v
 sifting-took w f i n m cs′ vs′ ns′ cs vs ns h v = record {
   is = sifting-end w f i n m cs′ vs′ ns′ cs vs ns h v;
   twice = omega (arith, v .room);
-  cares = v .cares .rest;
-  values = v .values .rest;
-  sizes = v .sizes .rest;
+  rest = record { cares = v .kept .cares .rest; values = v .kept .values .rest; sizes = v .kept .sizes .rest };
 }
 
 -- ---- take_next
@@ -327,9 +321,7 @@ module _ (w : ℕ) (f : Pattern) (fs : List Pattern) (n r : ℕ) (cs′ vs′ ns
   passed-over e = record {
     is = sym (taken-pick true (eq-eqb (cover f fs) (f .care) e));
     twice = omega arith;
-    cares = λ k h. refl;
-    values = λ k h. refl;
-    sizes = λ k h. refl;
+    rest = each-refl (SameFrom 1024) (λ a k h. refl) cs vs ns;
   }
 
   pub sifted-in : (cover f fs ≡ f .care → ⊥) → Took n r cs′ vs′ ns′ cs vs ns (sift w f (rows cs vs ns 0 n)) → Took n r cs′ vs′ ns′ cs vs ns (takenIn w f fs (rows cs vs ns 0 n))

@@ -10,9 +10,10 @@ use lib.ListN.{length, getD, set, take, drop, replicate, length-drop}
 use lib.Seq.{getD-set-same, getD-set-other, ext-getD, getD-drop, drop-cons}
 use Rattle.pattern.specs.declared.Pattern.{Pattern}
 use Rattle.classes.specs.Classes.{Entry, entry, classList, listed, laid, careAt, valueAt, sizeOf, patternAt, patternsFrom, AllWellFormed}
-use Rattle.classes.specs.Steps.{takenIn, Sound, row, rows, SameFrom, wiped, Took, Gathered}
+use Rattle.classes.specs.Steps.{takenIn, Sound, row, rows, SameFrom, wiped, Room, Each, Changed, Took, Gathered}
 use Rattle.classes.proofs.Grow.{list-start, next-list, next-sound, no-fewer}
 use Rattle.classes.proofs.Rows.{pat}
+use Rattle.classes.proofs.Steps.{SameLength, each-refl, each-then}
 use borrow.Author.Tests.{le-leb, lt-leb, leb-true}
 
 rows-length : (cs vs ns : List ℕ) (j m : ℕ) → length (rows cs vs ns j m) ≡ m
@@ -25,29 +26,25 @@ pub record Building (w : ℕ) (fc fv : List ℕ) (count j n : ℕ) (cs′ vs′ 
   pub is : rows cs′ vs′ ns′ 0 n ≡ classList w (patternsFrom fc fv 0 j)
   pub old : j ≤ count
   pub few : n ≤ 512
-  pub len-cares : length cs′ ≡ length cs
-  pub len-values : length vs′ ≡ length vs
-  pub len-sizes : length ns′ ≡ length ns
-  pub cares : SameFrom 1024 cs′ cs
-  pub values : SameFrom 1024 vs′ vs
-  pub sizes : SameFrom 1024 ns′ ns
+  pub lengths : Each SameLength cs′ vs′ ns′ cs vs ns
+  pub rest : Each (SameFrom 1024) cs′ vs′ ns′ cs vs ns
+
+both-rest : (cs″ vs″ ns″ cs′ vs′ ns′ cs vs ns : List ℕ) → Each (SameFrom 1024) cs″ vs″ ns″ cs′ vs′ ns′ → Each (SameFrom 1024) cs′ vs′ ns′ cs vs ns
+    → Each (SameFrom 1024) cs″ vs″ ns″ cs vs ns
+both-rest = each-then (SameFrom 1024) (SameFrom 1024) (SameFrom 1024) (λ c b a p q k l. p k l ∙ q k l)
 
 same-set-low : (x : ℕ) (a : List ℕ) → SameFrom 1024 (set a 0 x) a
 same-set-low x a k h = getD-set-other a 0 k x 0 (omega arith)
 
-pub building-start : (w : ℕ) (fc fv : List ℕ) (count x : ℕ) (cs vs ns : List ℕ) → 1024 ≤ length cs → 1024 ≤ length vs → 1024 ≤ length ns → x ≡ 2 ^ w
+pub building-start : (w : ℕ) (fc fv : List ℕ) (count x : ℕ) (cs vs ns : List ℕ) → Room cs vs ns → x ≡ 2 ^ w
     → Building w fc fv count 0 1 (set cs 0 0) (set vs 0 0) (set ns 0 x) (set cs 0 0) (set vs 0 0) (set ns 0 x)
 unfolding rows patternsFrom
-building-start w fc fv count x cs vs ns lc lv ln e = record {
+building-start w fc fv count x cs vs ns room e = record {
   is = ap (λ (y : Entry). y ∷ []) one ∙ list-start w;
   old = omega arith;
   few = omega arith;
-  len-cares = refl;
-  len-values = refl;
-  len-sizes = refl;
-  cares = λ k h. refl;
-  values = λ k h. refl;
-  sizes = λ k h. refl;
+  lengths = each-refl SameLength (λ a. refl) (set cs 0 0) (set vs 0 0) (set ns 0 x);
+  rest = each-refl (SameFrom 1024) (λ a k h. refl) (set cs 0 0) (set vs 0 0) (set ns 0 x);
 }
   where
     one : row (set cs 0 0) (set vs 0 0) (set ns 0 x) 0 ≡ entry (pat 0 0) (2 ^ w)
@@ -59,9 +56,7 @@ pub gathered-from : (w : ℕ) (fs : List Pattern) (r x : ℕ) (cs′ vs′ ns′
 gathered-from w fs r x cs′ vs′ ns′ cs vs ns b = record {
   fine = b .fine;
   many = b .many;
-  cares = λ k l. b .cares k l ∙ same-set-low 0 cs k l;
-  values = λ k l. b .values k l ∙ same-set-low 0 vs k l;
-  sizes = λ k l. b .sizes k l ∙ same-set-low x ns k l;
+  rest = both-rest cs′ vs′ ns′ (set cs 0 0) (set vs 0 0) (set ns 0 x) cs vs ns (b .rest) (record { cares = same-set-low 0 cs; values = same-set-low 0 vs; sizes = same-set-low x ns });
 }
 
 module _ (w : ℕ) (fc fv : List ℕ) (count : ℕ) (g : AllWellFormed w (patternsFrom fc fv 0 count)) (j n : ℕ) (cs′ vs′ ns′ cs vs ns : List ℕ)
@@ -73,19 +68,15 @@ module _ (w : ℕ) (fc fv : List ℕ) (count : ℕ) (g : AllWellFormed w (patter
       → rows cs₂ vs₂ ns₂ 0 r ≡ classList w (patternsFrom fc fv 0 (j + 1))
   next r cs₂ vs₂ ns₂ h e = e ∙ ap (takenIn w (patternAt fc fv j) (patternsFrom fc fv 0 j)) (b .is) ∙ next-list w fc fv count g j h
 
-  pub building-step : (r : ℕ) (cs₂ vs₂ ns₂ : List ℕ) → j < count → r ≤ 512 → length cs₂ ≡ length cs′ → length vs₂ ≡ length vs′ → length ns₂ ≡ length ns′
+  pub building-step : (r : ℕ) (cs₂ vs₂ ns₂ : List ℕ) → j < count → r ≤ 512 → Each SameLength cs₂ vs₂ ns₂ cs′ vs′ ns′
       → Took n r cs₂ vs₂ ns₂ cs′ vs′ ns′ (takenIn w (patternAt fc fv j) (patternsFrom fc fv 0 j) (rows cs′ vs′ ns′ 0 n))
       → Building w fc fv count (j + 1) r cs₂ vs₂ ns₂ cs vs ns
-  building-step r cs₂ vs₂ ns₂ h few lc lv ln t = record {
+  building-step r cs₂ vs₂ ns₂ h few l t = record {
     is = next r cs₂ vs₂ ns₂ h (t .is);
     old = omega arith;
     few = few;
-    len-cares = lc ∙ b .len-cares;
-    len-values = lv ∙ b .len-values;
-    len-sizes = ln ∙ b .len-sizes;
-    cares = λ k l. t .cares k l ∙ b .cares k l;
-    values = λ k l. t .values k l ∙ b .values k l;
-    sizes = λ k l. t .sizes k l ∙ b .sizes k l;
+    lengths = each-then SameLength SameLength SameLength (λ c b a p q. p ∙ q) cs₂ vs₂ ns₂ cs′ vs′ ns′ cs vs ns l (b .lengths);
+    rest = both-rest cs₂ vs₂ ns₂ cs′ vs′ ns′ cs vs ns (t .rest) (b .rest);
   }
 
   pub gathered-many : (r : ℕ) (cs₂ vs₂ ns₂ : List ℕ) → j < count → 512 < r
@@ -94,9 +85,7 @@ module _ (w : ℕ) (fc fv : List ℕ) (count : ℕ) (g : AllWellFormed w (patter
   gathered-many r cs₂ vs₂ ns₂ h big t = record {
     fine = λ few. absurd (omega arith);
     many = λ _. over;
-    cares = λ k l. t .cares k l ∙ b .cares k l;
-    values = λ k l. t .values k l ∙ b .values k l;
-    sizes = λ k l. t .sizes k l ∙ b .sizes k l;
+    rest = both-rest cs₂ vs₂ ns₂ cs′ vs′ ns′ cs vs ns (t .rest) (b .rest);
   }
     where
       over : 512 < length (classList w (patternsFrom fc fv 0 count))
@@ -113,9 +102,7 @@ module _ (w : ℕ) (fc fv : List ℕ) (count : ℕ) (g : AllWellFormed w (patter
   gathered-all h = record {
     fine = λ _. b .is ∙ ap (λ (x : ℕ). classList w (patternsFrom fc fv 0 x)) (omega (arith, b .old));
     many = λ big. absurd (omega (arith, b .few));
-    cares = b .cares;
-    values = b .values;
-    sizes = b .sizes;
+    rest = b .rest;
   }
 
 -- ---- the lists at the end
@@ -154,8 +141,7 @@ laid-out figure L m c b a e n t l s =
     ∙ ap (λ (k : ℕ). map figure L ++ replicate (1024 - k) 0 ++ drop 1024 a) n
 
 module _ (w : ℕ) (fs : List Pattern) (r : ℕ) (cs′ vs′ ns′ cs vs ns : List ℕ) (g : Gathered w fs r cs′ vs′ ns′ cs vs ns)
-    (lc : length cs′ ≡ length cs) (lv : length vs′ ≡ length vs) (ln : length ns′ ≡ length ns)
-    (rc : 1024 ≤ length cs) (rv : 1024 ≤ length vs) (rn : 1024 ≤ length ns) where
+    (lengths : Each SameLength cs′ vs′ ns′ cs vs ns) (room : Room cs vs ns) where
   -- the m entries that are listed
   abbrev Standing : ℕ → Type 0
   Standing m = (m ≤ 1024) × (rows cs′ vs′ ns′ 0 m ≡ listed w fs)
@@ -180,21 +166,21 @@ module _ (w : ℕ) (fs : List Pattern) (r : ℕ) (cs′ vs′ ns′ cs vs ns : L
     built-count : m ≡ length (listed w fs)
     built-count = sym (rows-length cs′ vs′ ns′ 0 m) ∙ ap length (standing m e .1)
 
-    built-cares : (c : List ℕ) → c ≡ wiped m 1024 cs′ → c ≡ laid careAt (listed w fs) cs
-    built-cares c d =
-        laid-out careAt (listed w fs) m c cs′ cs d built-count
-        (figures-all careAt cs′ vs′ ns′ cs′ (λ k. refl) m (omega (arith, standing m e .0)) ∙ ap (map careAt) (standing m e .1)) lc (g .cares)
+    built-figures : (figure : Entry → ℕ) (c b a : List ℕ) → ((k : ℕ) → getD b k 0 ≡ figure (row cs′ vs′ ns′ k)) → length b ≡ length a → 1024 ≤ length a
+        → SameFrom 1024 b a → c ≡ wiped m 1024 b → c ≡ laid figure (listed w fs) a
+    built-figures figure c b a same-figure l long rest d =
+        laid-out figure (listed w fs) m c b a d built-count
+        (figures-all figure cs′ vs′ ns′ b same-figure m (omega (arith, standing m e .0)) ∙ ap (map figure) (standing m e .1)) l rest
 
-    built-values : (c : List ℕ) → c ≡ wiped m 1024 vs′ → c ≡ laid valueAt (listed w fs) vs
-    built-values c d =
-        laid-out valueAt (listed w fs) m c vs′ vs d built-count
-        (figures-all valueAt cs′ vs′ ns′ vs′ (λ k. refl) m (omega (arith, standing m e .0)) ∙ ap (map valueAt) (standing m e .1)) lv (g .values)
-
-    built-sizes : (c : List ℕ) → c ≡ wiped m 1024 ns′ → c ≡ laid sizeOf (listed w fs) ns
-    built-sizes c d =
-        laid-out sizeOf (listed w fs) m c ns′ ns d built-count
-        (figures-all sizeOf cs′ vs′ ns′ ns′ (λ k. refl) m (omega (arith, standing m e .0)) ∙ ap (map sizeOf) (standing m e .1)) ln (g .sizes)
-
-    pub built : (c v n : List ℕ) → c ≡ wiped m 1024 cs′ → v ≡ wiped m 1024 vs′ → n ≡ wiped m 1024 ns′
+    pub built : (c v n : List ℕ) → Changed (wiped m 1024) (wiped m 1024) (wiped m 1024) c v n cs′ vs′ ns′
         → (m ≡ length (listed w fs)) × ((c ≡ laid careAt (listed w fs) cs) × ((v ≡ laid valueAt (listed w fs) vs) × (n ≡ laid sizeOf (listed w fs) ns)))
-    built c v n dc dv dn = (built-count, (built-cares c dc, (built-values v dv, built-sizes n dn)))
+    built c v n done = (
+      built-count,
+      (
+        built-figures careAt c cs′ cs (λ k. refl) (lengths .cares) (room .cares) (g .rest .cares) (done .cares),
+        (
+          built-figures valueAt v vs′ vs (λ k. refl) (lengths .values) (room .values) (g .rest .values) (done .values),
+          built-figures sizeOf n ns′ ns (λ k. refl) (lengths .sizes) (room .sizes) (g .rest .sizes) (done .sizes),
+        ),
+      ),
+    )

@@ -73,6 +73,12 @@ pub record Room (cs vs ns : List ℕ) : Type 0 where
   pub values : 1024 ≤ length vs
   pub sizes : 1024 ≤ length ns
 
+-- Each of the three lists stands so to what it was.
+pub record Each (R : List ℕ → List ℕ → Type 0) (cs′ vs′ ns′ cs vs ns : List ℕ) : Type 0 where
+  pub cares : R cs′ cs
+  pub values : R vs′ vs
+  pub sizes : R ns′ ns
+
 -- The entries from n on are the same.
 abbrev pub SameFrom : ℕ → List ℕ → List ℕ → Type 0
 SameFrom n b a = (k : ℕ) → n ≤ k → getD b k 0 ≡ getD a k 0
@@ -88,6 +94,12 @@ removed i n a = take i a ++ (take (n - suc i) (drop (suc i) a) ++ drop (n - 1) a
 -- a with 0 from place i to before place k.
 unfoldable pub wiped : ℕ → ℕ → List ℕ → List ℕ
 wiped i k a = take i a ++ replicate (k - i) 0 ++ drop k a
+
+-- Each of the three lists is what its change makes of it.
+pub record Changed (f g h : List ℕ → List ℕ) (cs′ vs′ ns′ cs vs ns : List ℕ) : Type 0 where
+  pub cares : cs′ ≡ f cs
+  pub values : vs′ ≡ g vs
+  pub sizes : ns′ ≡ h ns
 
 -- r is the first place from i to n whose entry is not before p.
 pub record Placed (p : Pattern) (cs vs : List ℕ) (i n r : ℕ) : Type 0 where
@@ -106,22 +118,16 @@ pub record Became (i n r : ℕ) (cs′ vs′ ns′ cs vs ns : List ℕ) (L : Lis
   pub is : rows cs′ vs′ ns′ i (r - i) ≡ L
   pub from : i ≤ r
   pub one-more : r ≤ n + 1
-  pub cares : Kept i cs′ cs
-  pub values : Kept i vs′ vs
-  pub sizes : Kept i ns′ ns
+  pub kept : Each (Kept i) cs′ vs′ ns′ cs vs ns
 
 -- The first r entries became L, which is at most twice as long as the n that stood there; from 1,024 on nothing changed.
 pub record Took (n r : ℕ) (cs′ vs′ ns′ cs vs ns : List ℕ) (L : List Entry) : Type 0 where
   pub is : rows cs′ vs′ ns′ 0 r ≡ L
   pub twice : r ≤ n + n
-  pub cares : SameFrom 1024 cs′ cs
-  pub values : SameFrom 1024 vs′ vs
-  pub sizes : SameFrom 1024 ns′ ns
+  pub rest : Each (SameFrom 1024) cs′ vs′ ns′ cs vs ns
 
 -- The first r entries are the class list, where they are at most 512; else the class list has more than 512 too.
 pub record Gathered (w : ℕ) (fs : List Pattern) (r : ℕ) (cs′ vs′ ns′ cs vs ns : List ℕ) : Type 0 where
   pub fine : r ≤ 512 → rows cs′ vs′ ns′ 0 r ≡ classList w fs
   pub many : 512 < r → 512 < length (classList w fs)
-  pub cares : SameFrom 1024 cs′ cs
-  pub values : SameFrom 1024 vs′ vs
-  pub sizes : SameFrom 1024 ns′ ns
+  pub rest : Each (SameFrom 1024) cs′ vs′ ns′ cs vs ns

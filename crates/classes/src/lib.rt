@@ -73,8 +73,6 @@ pub fn build(
 {
     let n = gather(fcares, fvalues, count, width, cares, values, sizes);
     let m = most(n);
-    places::clear_u32(cares, m, 1024);
-    places::clear_u32(values, m, 1024);
-    places::clear_u64(sizes, m, 1024);
+    places::clear(cares, values, sizes, m);
     m
 }

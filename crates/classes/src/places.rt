@@ -1,88 +1,64 @@
-// One list of entries: a place put in, a place taken out, and the places after the last entry cleared. Each stands once for 32 and once for 64 bits.
-ghost use mathlib.Core.Path.{_≡_};
+// Entries in three lists: one put in, one taken out, and the places after the last one cleared.
 ghost use Prim.Native.Nat.{_≤_, _<_};
-ghost use Rattle.classes.specs.Steps.{inserted, removed, wiped};
+ghost use Rattle.classes.specs.Steps.{Room, Changed, inserted, removed, wiped};
+use pattern::Pattern;
 
-// `x` at place `i` of the first `n`; those from there on go one place up.
-pub fn insert_u32(a: &mut [u32], i: usize, n: usize, x: u32)
-    requires room { do ⌜ n < (← ⟦a.len()⟧) ⌝ }
+// `p` with size `k` at place `i` of the first `n`; those from there on go one place up.
+pub fn insert(
+    cares: &mut [u32],
+    values: &mut [u32],
+    sizes: &mut [u64],
+    i: usize,
+    n: usize,
+    p: Pattern,
+    k: u64,
+)
+    requires room { ⌜ Room (now cares) (now values) (now sizes) ⌝ }
+    requires few { ⌜ n < 1024 ⌝ }
     requires inside { ⌜ i ≤ n ⌝ }
-    ensures { λ r. ⌜ now (a .exit) ≡ inserted i n x (now (a .entry)) ⌝ }
+    ensures { λ r. ⌜ Changed (inserted i n (p .care)) (inserted i n (p .value)) (inserted i n k) (now (cares .exit)) (now (values .exit)) (now (sizes .exit)) (now (cares .entry)) (now (values .entry)) (now (sizes .entry)) ⌝ }
 {
-    let mut k = n;
-    while i < k {
-        k = k - 1;
-        let y = a[k];
-        a[k + 1] = y;
+    let mut j = n;
+    while i < j {
+        let below = j - 1;
+        cares[j] = cares[below];
+        values[j] = values[below];
+        sizes[j] = sizes[below];
+        j = below;
     }
-    a[i] = x;
-}
-
-// The same for 64 bits.
-pub fn insert_u64(a: &mut [u64], i: usize, n: usize, x: u64)
-    requires room { do ⌜ n < (← ⟦a.len()⟧) ⌝ }
-    requires inside { ⌜ i ≤ n ⌝ }
-    ensures { λ r. ⌜ now (a .exit) ≡ inserted i n x (now (a .entry)) ⌝ }
-{
-    let mut k = n;
-    while i < k {
-        k = k - 1;
-        let y = a[k];
-        a[k + 1] = y;
-    }
-    a[i] = x;
+    cares[i] = p.care;
+    values[i] = p.value;
+    sizes[i] = k;
 }
 
 // Place `i` of the first `n` goes; those after it go one place down.
-pub fn remove_u32(a: &mut [u32], i: usize, n: usize)
-    requires room { do ⌜ n ≤ (← ⟦a.len()⟧) ⌝ }
+pub fn remove(cares: &mut [u32], values: &mut [u32], sizes: &mut [u64], i: usize, n: usize)
+    requires room { ⌜ Room (now cares) (now values) (now sizes) ⌝ }
+    requires few { ⌜ n < 1024 ⌝ }
     requires inside { ⌜ i < n ⌝ }
-    ensures { λ r. ⌜ now (a .exit) ≡ removed i n (now (a .entry)) ⌝ }
+    ensures { λ r. ⌜ Changed (removed i n) (removed i n) (removed i n) (now (cares .exit)) (now (values .exit)) (now (sizes .exit)) (now (cares .entry)) (now (values .entry)) (now (sizes .entry)) ⌝ }
 {
-    let mut k = i;
-    while k + 1 < n {
-        let y = a[k + 1];
-        a[k] = y;
-        k = k + 1;
+    let mut j = i;
+    while j + 1 < n {
+        let next = j + 1;
+        cares[j] = cares[next];
+        values[j] = values[next];
+        sizes[j] = sizes[next];
+        j = next;
     }
 }
 
-// The same for 64 bits.
-pub fn remove_u64(a: &mut [u64], i: usize, n: usize)
-    requires room { do ⌜ n ≤ (← ⟦a.len()⟧) ⌝ }
-    requires inside { ⌜ i < n ⌝ }
-    ensures { λ r. ⌜ now (a .exit) ≡ removed i n (now (a .entry)) ⌝ }
+// 0 from place `from` to place 1,023.
+pub fn clear(cares: &mut [u32], values: &mut [u32], sizes: &mut [u64], from: usize)
+    requires room { ⌜ Room (now cares) (now values) (now sizes) ⌝ }
+    requires inside { ⌜ from ≤ 1024 ⌝ }
+    ensures { λ r. ⌜ Changed (wiped from 1024) (wiped from 1024) (wiped from 1024) (now (cares .exit)) (now (values .exit)) (now (sizes .exit)) (now (cares .entry)) (now (values .entry)) (now (sizes .entry)) ⌝ }
 {
-    let mut k = i;
-    while k + 1 < n {
-        let y = a[k + 1];
-        a[k] = y;
-        k = k + 1;
-    }
-}
-
-// 0 from place `i` to before place `end`.
-pub fn clear_u32(a: &mut [u32], i: usize, end: usize)
-    requires room { do ⌜ end ≤ (← ⟦a.len()⟧) ⌝ }
-    requires inside { ⌜ i ≤ end ⌝ }
-    ensures { λ r. ⌜ now (a .exit) ≡ wiped i end (now (a .entry)) ⌝ }
-{
-    let mut k = i;
-    while k < end {
-        a[k] = 0;
-        k = k + 1;
-    }
-}
-
-// The same for 64 bits.
-pub fn clear_u64(a: &mut [u64], i: usize, end: usize)
-    requires room { do ⌜ end ≤ (← ⟦a.len()⟧) ⌝ }
-    requires inside { ⌜ i ≤ end ⌝ }
-    ensures { λ r. ⌜ now (a .exit) ≡ wiped i end (now (a .entry)) ⌝ }
-{
-    let mut k = i;
-    while k < end {
-        a[k] = 0;
-        k = k + 1;
+    let mut j = from;
+    while j < 1024 {
+        cares[j] = 0;
+        values[j] = 0;
+        sizes[j] = 0;
+        j = j + 1;
     }
 }

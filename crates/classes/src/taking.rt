@@ -112,9 +112,7 @@ fn add_entry(
         sizes[i] = s + k;
         return n;
     }
-    places::insert_u32(cares, i, n, p.care);
-    places::insert_u32(values, i, n, p.value);
-    places::insert_u64(sizes, i, n, k);
+    places::insert(cares, values, sizes, i, n, p, k);
     n + 1
 }
 
@@ -141,9 +139,7 @@ fn move_part(
     }
     let s = sizes[i];
     if k == s {
-        places::remove_u32(cares, i, m);
-        places::remove_u32(values, i, m);
-        places::remove_u64(sizes, i, m);
+        places::remove(cares, values, sizes, i, m);
         return add_entry(cares, values, sizes, i, m - 1, p, k);
     }
     sizes[i] = s - k;

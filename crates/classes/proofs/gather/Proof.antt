@@ -34,7 +34,7 @@ loop-holds : tie.Need-loop-holds Inv-loop μ-loop
 loop-holds c =
     let s = c .before .before .before .before .before in
     building-start (s .args .width) (s .args .fcares .now) (s .args .fvalues .now) (s .args .count) (1 * 2 ^ s .args .width % 18446744073709551616)
-    (s .args .cares .now) (s .args .values .now) (s .args .sizes .now) (omega (arith, s .pre)) (omega (arith, s .pre)) (omega (arith, s .pre))
+    (s .args .cares .now) (s .args .values .now) (s .args .sizes .now) (s .pre .1 .1 .0)
     (shl-exact {a = 1} 1 (s .args .width) 64 (lit< tt) (omega (arith, s .pre)) ∙ one-mul (2 ^ s .args .width))
 
 take-next-requires : tie.Need-take-next-requires Inv-loop μ-loop
@@ -49,9 +49,9 @@ take-next-requires c κs =
         omega (arith, s .pre),
         (
           record {
-            cares = omega (arith, s .pre, v .len-cares, length-set (a .cares .now) 0 0);
-            values = omega (arith, s .pre, v .len-values, length-set (a .values .now) 0 0);
-            sizes = omega (arith, s .pre, v .len-sizes, length-set (a .sizes .now) 0 all);
+            cares = omega (arith, s .pre, v .lengths .cares, length-set (a .cares .now) 0 0);
+            values = omega (arith, s .pre, v .lengths .values, length-set (a .values .now) 0 0);
+            sizes = omega (arith, s .pre, v .lengths .sizes, length-set (a .sizes .now) 0 all);
           },
           (
             v .few,
@@ -69,13 +69,13 @@ take-next-requires c κs =
     )
 
 same-length : tie.Need-same-length Inv-loop μ-loop
-same-length c = omega (arith, c .before .before .before .before .before .before .before .before .before .before .before .before .loop .inv .len-cares, c .before .before .before .before .before .before .cares .given, length-set (c .before .before .before .before .before .before .before .before .before .before .before .before .before .before .before .before .before .before .args .cares .now) 0 0)
+same-length c = omega (arith, c .before .before .before .before .before .before .before .before .before .before .before .before .loop .inv .lengths .cares, c .before .before .before .before .before .before .cares .given, length-set (c .before .before .before .before .before .before .before .before .before .before .before .before .before .before .before .before .before .before .args .cares .now) 0 0)
 
 same-length-2 : tie.Need-same-length-2 Inv-loop μ-loop
-same-length-2 c = omega (arith, c .before .before .before .before .before .before .before .before .before .before .before .before .loop .inv .len-values, c .before .before .before .before .values .given, length-set (c .before .before .before .before .before .before .before .before .before .before .before .before .before .before .before .before .before .before .args .values .now) 0 0)
+same-length-2 c = omega (arith, c .before .before .before .before .before .before .before .before .before .before .before .before .loop .inv .lengths .values, c .before .before .before .before .values .given, length-set (c .before .before .before .before .before .before .before .before .before .before .before .before .before .before .before .before .before .before .args .values .now) 0 0)
 
 same-length-3 : tie.Need-same-length-3 Inv-loop μ-loop
-same-length-3 c = omega (arith, c .before .before .before .before .before .before .before .before .before .before .before .before .loop .inv .len-sizes, c .before .before .sizes .given, length-set (c .before .before .before .before .before .before .before .before .before .before .before .before .before .before .before .before .before .before .args .sizes .now) 0 (1 * 2 ^ c .before .before .before .before .before .before .before .before .before .before .before .before .before .before .before .before .before .before .args .width % 18446744073709551616))
+same-length-3 c = omega (arith, c .before .before .before .before .before .before .before .before .before .before .before .before .loop .inv .lengths .sizes, c .before .before .sizes .given, length-set (c .before .before .before .before .before .before .before .before .before .before .before .before .before .before .before .before .before .before .args .sizes .now) 0 (1 * 2 ^ c .before .before .before .before .before .before .before .before .before .before .before .before .before .before .before .before .before .before .args .width % 18446744073709551616))
 
 returns : tie.Need-returns Inv-loop μ-loop
 returns c =
@@ -105,16 +105,16 @@ loop-again c =
     let t = c .before .before .before .before .before .before .before .take-next in
     building-step (a .width) (a .fcares .now) (a .fvalues .now) (a .count) (s .pre .1 .1 .1 .1) (l .j) (l .n) (l .cares) (l .values) (l .sizes)
     (set (a .cares .now) 0 0) (set (a .values .now) 0 0) (set (a .sizes .now) 0 all) (l .inv)
-    (t .result) (t .last .1 .1 .1 .1 .0) (t .last .1 .1 .1 .1 .1 .0) (t .last .1 .1 .1 .1 .1 .1 .0) (c .before .before .before .before .before .before .before .before .before .before .before .loop-test .taken) (c .if1 .left) (omega arith) (omega arith) (omega arith) (t .ensures)
+    (t .result) (t .last .1 .1 .1 .1 .0) (t .last .1 .1 .1 .1 .1 .0) (t .last .1 .1 .1 .1 .1 .1 .0) (c .before .before .before .before .before .before .before .before .before .before .before .loop-test .taken) (c .if1 .left) (record { cares = omega arith; values = omega arith; sizes = omega arith }) (t .ensures)
 
 same-length-4 : tie.Need-same-length-4 Inv-loop μ-loop
-same-length-4 c = omega (arith, c .before .loop .inv .len-cares, length-set (c .before .before .before .before .before .before .before .args .cares .now) 0 0)
+same-length-4 c = omega (arith, c .before .loop .inv .lengths .cares, length-set (c .before .before .before .before .before .before .before .args .cares .now) 0 0)
 
 same-length-5 : tie.Need-same-length-5 Inv-loop μ-loop
-same-length-5 c = omega (arith, c .before .loop .inv .len-values, length-set (c .before .before .before .before .before .before .before .args .values .now) 0 0)
+same-length-5 c = omega (arith, c .before .loop .inv .lengths .values, length-set (c .before .before .before .before .before .before .before .args .values .now) 0 0)
 
 same-length-6 : tie.Need-same-length-6 Inv-loop μ-loop
-same-length-6 c = omega (arith, c .before .loop .inv .len-sizes, length-set (c .before .before .before .before .before .before .before .args .sizes .now) 0 (1 * 2 ^ c .before .before .before .before .before .before .before .args .width % 18446744073709551616))
+same-length-6 c = omega (arith, c .before .loop .inv .lengths .sizes, length-set (c .before .before .before .before .before .before .before .args .sizes .now) 0 (1 * 2 ^ c .before .before .before .before .before .before .before .args .width % 18446744073709551616))
 
 returns-2 : tie.Need-returns-2 Inv-loop μ-loop
 returns-2 c =

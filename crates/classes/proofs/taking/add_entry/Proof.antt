@@ -1,8 +1,8 @@
 -- `classes::taking::add_entry` meets its contract: the pattern is there and its size grows, or it is put in at its place.
 use mathlib.Core.Path.{sym, _∙_}
 use native.Mathlib.Omega.{arith}
-use borrow.Author.Needs.{needs}
 use Rattle.classes.proofs.Steps.{add-there, add-fits, add-new}
+use borrow.Author.Needs.{needs}
 use Rattle.classes.proofs.taking.add_entry.Statement.{statement}
 use Rattle.classes.proofs.taking.add_entry.Tie as tie
 
@@ -52,17 +52,11 @@ returns c =
     add-there (a .p) (a .k) (a .cares .now) (a .values .now) (a .sizes .now) (a .from) (a .n) (p .result) (omega (arith, s .pre)) (omega (arith, s .pre)) (p .ensures)
     (sym (c .before .if1 .taken) ∙ c .before .before .is-at .ensures)
 
-insert-u32-requires : tie.Need-insert-u32-requires
-insert-u32-requires c κs = search needs
-
-insert-u32-requires-2 : tie.Need-insert-u32-requires-2
-insert-u32-requires-2 c κs = search needs
-
-insert-u64-requires : tie.Need-insert-u64-requires
-insert-u64-requires c κs = search needs
+insert-requires : tie.Need-insert-requires
+insert-requires c κs = search needs
 
 add-result : tie.Need-add-result
-add-result c = omega (arith, c .before .before .before .before .before .before .before .before .before .before .before .before .before .before .before .before .before .before .before .before .before .before .pre)
+add-result c = search needs
 
 same-length-4 : tie.Need-same-length-4
 same-length-4 c = search needs
@@ -75,15 +69,12 @@ same-length-6 c = search needs
 
 returns-2 : tie.Need-returns-2
 returns-2 c =
-    let s = c .before .before .before .before .before .before .before .before .before .before .before .before .before .before .before .before .before .before .before .before .before .before in
+    let s = c .before .before .before .before .before .before .before .before .before .before .before .before .before .before .before .before .before .before .before .before in
     let a = s .args in
-    let ic = c .before .before .before .before .before .before .before .before .before .before .insert-u32 in
-    let iv = c .before .before .before .before .before .before .insert-u322 in
-    let iz = c .before .before .insert-u64 in
-    let p = c .before .before .before .before .before .before .before .before .before .before .before .before .before .before .before .before .place in
-    add-new (a .p) (a .k) (a .cares .now) (a .values .now) (a .sizes .now) (ic .last .0) (iv .last .0) (iz .last .0)
-    (a .from) (a .n) (p .result) (s .pre .0) (s .pre .1 .0) (p .ensures) (sym (c .before .before .before .before .before .before .before .before .before .before .before .before .if1 .left) ∙ c .before .before .before .before .before .before .before .before .before .before .before .before .before .is-at .ensures)
-    (ic .ensures) (iv .ensures) (iz .ensures)
+    let t = c .before .before .before .before .before .before .insert in
+    let p = c .before .before .before .before .before .before .before .before .before .before .before .before .before .before .place in
+    add-new (a .p) (a .k) (a .cares .now) (a .values .now) (a .sizes .now) (t .last .0) (t .last .1 .0) (t .last .1 .1 .0)
+    (a .from) (a .n) (p .result) (s .pre .0) (s .pre .1 .0) (p .ensures) (sym (c .before .before .before .before .before .before .before .before .before .before .if1 .left) ∙ c .before .before .before .before .before .before .before .before .before .before .before .is-at .ensures) (t .ensures)
 
 pub add-entry-spec : {M : Type 1} → statement M
 add-entry-spec =
@@ -100,9 +91,7 @@ add-entry-spec =
     same-length-2
     same-length-3
     returns
-    insert-u32-requires
-    insert-u32-requires-2
-    insert-u64-requires
+    insert-requires
     add-result
     same-length-4
     same-length-5

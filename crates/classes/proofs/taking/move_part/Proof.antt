@@ -5,8 +5,8 @@ use Prim.Native.Nat.{_-_}
 use native.Mathlib.Omega.{arith}
 use lib.ListN.{getD, length-set}
 use Rattle.classes.specs.Steps.{sumIf}
-use borrow.Author.Needs.{needs}
 use Rattle.classes.proofs.Steps.{moved-none, removed-is, moved-whole, set-is, moved-part}
+use borrow.Author.Needs.{needs}
 use Rattle.classes.proofs.taking.move_part.Statement.{statement}
 use Rattle.classes.proofs.taking.move_part.Tie as tie
 
@@ -22,42 +22,22 @@ mul-s c = search needs
 slice-read-s : tie.Need-slice-read-s
 slice-read-s c = search needs
 
-remove-u32-requires : tie.Need-remove-u32-requires
-remove-u32-requires c κs = search needs
-
-remove-u32-requires-2 : tie.Need-remove-u32-requires-2
-remove-u32-requires-2 c κs = search needs
-
-remove-u64-requires : tie.Need-remove-u64-requires
-remove-u64-requires c κs = search needs
+remove-requires : tie.Need-remove-requires
+remove-requires c κs = search needs
 
 sub-add-entry : tie.Need-sub-add-entry
 sub-add-entry c = search needs
 
 add-entry-requires : tie.Need-add-entry-requires
 add-entry-requires c κs =
-    let s = c .before .before .before .before .before .before .before .before .before .before .before .before .before .before .before .before .before .before .before .before .before in
+    let s = c .before .before .before .before .before .before .before .before .before .before .before .before .before .before .before .before .before .before .before in
     let a = s .args in
-    let rc = c .before .before .before .before .before .before .before .before .before .before .before .before .before .remove-u32 in
-    let rv = c .before .before .before .before .before .before .before .before .before .remove-u322 in
-    let rn = c .before .before .before .before .before .remove-u64 in (
+    let r = c .before .before .before .before .before .before .before .before .before .remove in
+    let is =
+    removed-is (a .p) (a .k) (a .cares .now) (a .values .now) (a .sizes .now) (a .i) (a .m) (s .pre .1 .1 .0) (s .pre .1 .0) (s .pre .0)
+    (r .last .0) (r .last .1 .0) (r .last .1 .1 .0) (r .ensures) in (
       record { cares = omega (arith, s .pre); values = omega (arith, s .pre); sizes = omega (arith, s .pre) },
-      (
-        omega (arith, s .pre),
-        (
-          omega (arith, s .pre),
-          (
-            omega (
-              arith,
-              ap (sumIf (λ q. true)) (removed-is (a .p) (a .k) (a .cares .now) (a .values .now) (a .sizes .now) (a .i) (a .m) (s .pre .1 .1 .0) (s .pre .1 .0) (s .pre .0)
-                  (rc .last .0) (rv .last .0) (rn .last .0)
-                  (rc .ensures) (rv .ensures) (rn .ensures)),
-              s .pre,
-            ),
-            omega (arith, s .pre),
-          ),
-        ),
-      ),
+      (omega (arith, s .pre), (omega (arith, s .pre), (omega (arith, ap (sumIf (λ q. true)) is, s .pre), omega (arith, s .pre)))),
     )
 
 same-length : tie.Need-same-length
@@ -71,16 +51,13 @@ same-length-3 c = search needs
 
 returns-2 : tie.Need-returns-2
 returns-2 c =
-    let s = c .before .before .before .before .before .before .before .before .before .before .before .before .before .before .before .before .before .before .before .before .before .before .before .before .before .before .before .before in
+    let s = c .before .before .before .before .before .before .before .before .before .before .before .before .before .before .before .before .before .before .before .before .before .before .before .before .before .before in
     let a = s .args in
-    let rc = c .before .before .before .before .before .before .before .before .before .before .before .before .before .before .before .before .before .before .before .before .remove-u32 in
-    let rv = c .before .before .before .before .before .before .before .before .before .before .before .before .before .before .before .before .remove-u322 in
-    let rn = c .before .before .before .before .before .before .before .before .before .before .before .before .remove-u64 in
+    let r = c .before .before .before .before .before .before .before .before .before .before .before .before .before .before .before .before .remove in
     let t = c .before .before .before .before .before .before .add-entry in
     moved-whole (a .p) (a .k) (a .cares .now) (a .values .now) (a .sizes .now) (a .i) (a .m) (s .pre .1 .1 .0) (s .pre .1 .0) (s .pre .0)
-    (rc .last .0) (rv .last .0) (rn .last .0)
-    (rc .ensures) (rv .ensures) (rn .ensures)
-    (t .last .0) (t .last .1 .0) (t .last .1 .1 .0) (t .result) (c .before .before .before .before .before .before .before .before .before .before .before .before .before .before .before .before .before .before .before .before .before .before .before .before .if1 .left) (c .before .before .before .before .before .before .before .before .before .before .before .before .before .before .before .before .before .before .before .before .before .before .if2 .taken) (t .ensures)
+    (r .last .0) (r .last .1 .0) (r .last .1 .1 .0) (r .ensures) (t .last .0) (t .last .1 .0) (t .last .1 .1 .0) (t .result)
+    (c .before .before .before .before .before .before .before .before .before .before .before .before .before .before .before .before .before .before .before .before .before .before .if1 .left) (c .before .before .before .before .before .before .before .before .before .before .before .before .before .before .before .before .before .before .before .before .if2 .taken) (t .ensures)
 
 sub-sizes : tie.Need-sub-sizes
 sub-sizes c = search needs
@@ -98,22 +75,11 @@ add-entry-requires-2 : tie.Need-add-entry-requires-2
 add-entry-requires-2 c κs =
     let s = c .before .before .before .before .before .before .before .before .before in
     let a = s .args in
-    let r = s .pre .0 in (
-      record { cares = r .cares; values = r .values; sizes = omega (arith, r .sizes, length-set (a .sizes .now) (a .i) (getD (a .sizes .now) (a .i) 0 - a .k)) },
-      (
-        s .pre .1 .0,
-        (
-          omega (arith, s .pre),
-          (
-            omega (
-              arith,
-              ap (sumIf (λ q. true)) (set-is (a .p) (a .k) (a .cares .now) (a .values .now) (a .sizes .now) (a .i) (a .m) (s .pre .1 .1 .0) (s .pre .1 .0) (s .pre .0) (getD (a .sizes .now) (a .i) 0 - a .k)),
-              s .pre,
-            ),
-            omega (arith, s .pre),
-          ),
-        ),
-      ),
+    let r = s .pre .0 in
+    let left = getD (a .sizes .now) (a .i) 0 - a .k in
+    let is = set-is (a .p) (a .k) (a .cares .now) (a .values .now) (a .sizes .now) (a .i) (a .m) (s .pre .1 .1 .0) (s .pre .1 .0) (s .pre .0) left in (
+      record { cares = r .cares; values = r .values; sizes = omega (arith, r .sizes, length-set (a .sizes .now) (a .i) left) },
+      (s .pre .1 .0, (omega (arith, s .pre), (omega (arith, ap (sumIf (λ q. true)) is, s .pre), omega (arith, s .pre)))),
     )
 
 same-length-4 : tie.Need-same-length-4
@@ -142,9 +108,7 @@ move-part-spec =
     returns
     mul-s
     slice-read-s
-    remove-u32-requires
-    remove-u32-requires-2
-    remove-u64-requires
+    remove-requires
     sub-add-entry
     add-entry-requires
     same-length

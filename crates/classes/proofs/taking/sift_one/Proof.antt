@@ -1,9 +1,8 @@
 -- `classes::taking::sift_one` meets its contract: an entry that the filter cuts is parted, and any other stays.
 use mathlib.Core.Path.{sym, ap₂, _∙_}
-use Prim.Native.Nat.{ℕ, _+_, _-_}
+use Prim.Native.Nat.{ℕ, _-_}
 use native.Mathlib.Nat.{le-trans}
 use native.Mathlib.Omega.{arith}
-use Rattle.classes.specs.Steps.{row, rows}
 use borrow.Author.Needs.{needs}
 use Rattle.classes.proofs.Steps.{sift-stays, sift-moves, parting}
 use Rattle.classes.proofs.taking.sift_one.Statement.{statement}
@@ -30,9 +29,10 @@ common-requires c κs = search needs
 held-requires : tie.Need-held-requires
 held-requires c κs =
     let s = c .before .before .before .before .before .before .before .before in
+    let a = s .args in
     let g =
-    parting (s .args .width) (s .args .f) (row (s .args .cares .now) (s .args .values .now) (s .args .sizes .now) (s .args .i)) (rows (s .args .cares .now) (s .args .values .now) (s .args .sizes .now) (s .args .i + 1) (s .args .m - (s .args .i + 1))) (c .common .result)
-    (s .pre .1 .1 .1 .0) (s .pre .1 .1 .1 .1 .0) (s .pre .1 .1 .1 .1 .1) (sym (c .before .if1 .taken) ∙ c .before .before .is-cut .ensures) (c .common .ensures) in
+    parting (a .width) (a .f) (a .cares .now) (a .values .now) (a .sizes .now) (a .i) (a .m) (c .common .result) (s .pre .1 .1 .1)
+    (sym (c .before .if1 .taken) ∙ c .before .before .is-cut .ensures) (c .common .ensures) in
     (s .pre .1 .1 .1 .0, g .bits)
 
 add-within-sum : tie.Need-add-within-sum
@@ -41,25 +41,28 @@ add-within-sum c = search needs
 within-sum-requires : tie.Need-within-sum-requires
 within-sum-requires c κs =
     let s = c .before .before .before .before .before .before .before .before .before .before .before .before in
+    let a = s .args in
     let g =
-    parting (s .args .width) (s .args .f) (row (s .args .cares .now) (s .args .values .now) (s .args .sizes .now) (s .args .i)) (rows (s .args .cares .now) (s .args .values .now) (s .args .sizes .now) (s .args .i + 1) (s .args .m - (s .args .i + 1))) (c .before .before .before .before .common .result)
-    (s .pre .1 .1 .1 .0) (s .pre .1 .1 .1 .1 .0) (s .pre .1 .1 .1 .1 .1) (sym (c .before .before .before .before .before .if1 .taken) ∙ c .before .before .before .before .before .before .is-cut .ensures) (c .before .before .before .before .common .ensures) in
+    parting (a .width) (a .f) (a .cares .now) (a .values .now) (a .sizes .now) (a .i) (a .m) (c .before .before .before .before .common .result) (s .pre .1 .1 .1)
+    (sym (c .before .before .before .before .before .if1 .taken) ∙ c .before .before .before .before .before .before .is-cut .ensures) (c .before .before .before .before .common .ensures) in
     (omega (arith, s .pre), (omega (arith, s .pre), (omega (arith, s .pre), (omega (arith, s .pre), le-trans (g .held-more) (g .few)))))
 
 sub-move-part : tie.Need-sub-move-part
 sub-move-part c =
     let s = c .before .before .before .before .before .before .before .before .before .before .before .before .before .before .before .before in
+    let a = s .args in
     let g =
-    parting (s .args .width) (s .args .f) (row (s .args .cares .now) (s .args .values .now) (s .args .sizes .now) (s .args .i)) (rows (s .args .cares .now) (s .args .values .now) (s .args .sizes .now) (s .args .i + 1) (s .args .m - (s .args .i + 1))) (c .before .before .before .before .before .before .before .before .common .result)
-    (s .pre .1 .1 .1 .0) (s .pre .1 .1 .1 .1 .0) (s .pre .1 .1 .1 .1 .1) (sym (c .before .before .before .before .before .before .before .before .before .if1 .taken) ∙ c .before .before .before .before .before .before .before .before .before .before .is-cut .ensures) (c .before .before .before .before .before .before .before .before .common .ensures) in
+    parting (a .width) (a .f) (a .cares .now) (a .values .now) (a .sizes .now) (a .i) (a .m) (c .before .before .before .before .before .before .before .before .common .result) (s .pre .1 .1 .1)
+    (sym (c .before .before .before .before .before .before .before .before .before .if1 .taken) ∙ c .before .before .before .before .before .before .before .before .before .before .is-cut .ensures) (c .before .before .before .before .before .before .before .before .common .ensures) in
     omega (arith, g .held-more, c .before .before .before .before .before .before .before .held .ensures, c .before .before .before .within-sum .ensures)
 
 move-part-requires : tie.Need-move-part-requires
 move-part-requires c κs =
     let s = c .before .before .before .before .before .before .before .before .before .before .before .before .before .before .before .before in
+    let a = s .args in
     let g =
-    parting (s .args .width) (s .args .f) (row (s .args .cares .now) (s .args .values .now) (s .args .sizes .now) (s .args .i)) (rows (s .args .cares .now) (s .args .values .now) (s .args .sizes .now) (s .args .i + 1) (s .args .m - (s .args .i + 1))) (c .before .before .before .before .before .before .before .before .common .result)
-    (s .pre .1 .1 .1 .0) (s .pre .1 .1 .1 .1 .0) (s .pre .1 .1 .1 .1 .1) (sym (c .before .before .before .before .before .before .before .before .before .if1 .taken) ∙ c .before .before .before .before .before .before .before .before .before .before .is-cut .ensures) (c .before .before .before .before .before .before .before .before .common .ensures) in (
+    parting (a .width) (a .f) (a .cares .now) (a .values .now) (a .sizes .now) (a .i) (a .m) (c .before .before .before .before .before .before .before .before .common .result) (s .pre .1 .1 .1)
+    (sym (c .before .before .before .before .before .before .before .before .before .if1 .taken) ∙ c .before .before .before .before .before .before .before .before .before .before .is-cut .ensures) (c .before .before .before .before .before .before .before .before .common .ensures) in (
       s .pre .0,
       (
         s .pre .1 .0,

@@ -28,7 +28,7 @@ sift-one-requires c κs =
     let sound =
     sifting-sound (a .width) (a .f) (l .i - 1) (l .i) (a .n) (l .m) (l .cares) (l .values) (l .sizes) (a .cares .now) (a .values .now) (a .sizes .now)
     (let h = c .before .before .before .loop-test .taken in omega arith) v (s .pre .1 .1 .1 .1) in (
-      record { cares = omega (arith, s .pre, v .len-cares); values = omega (arith, s .pre, v .len-values); sizes = omega (arith, s .pre, v .len-sizes) },
+      record { cares = omega (arith, s .pre, v .lengths .cares); values = omega (arith, s .pre, v .lengths .values); sizes = omega (arith, s .pre, v .lengths .sizes) },
       (omega (arith, s .pre, v .room), (omega (arith, v .from), (s .pre .1 .1 .0, (s .pre .1 .1 .1 .0, sound)))),
     )
 
@@ -41,16 +41,16 @@ loop-again c =
     let l = c .before .before .before .before .before .before .before .before .before .before .before .loop in
     let t = c .before .before .before .before .before .before .sift-one in
     sifting-step (a .width) (a .f) (l .i - 1) (l .i) (a .n) (l .m) (l .cares) (l .values) (l .sizes) (a .cares .now) (a .values .now) (a .sizes .now)
-    (let h = c .before .before .before .before .before .before .before .before .before .before .loop-test .taken in omega arith) (l .inv) (t .result) (t .last .0) (t .last .1 .0) (t .last .1 .1 .0) (omega arith) (omega arith) (omega arith) (t .ensures)
+    (let h = c .before .before .before .before .before .before .before .before .before .before .loop-test .taken in omega arith) (l .inv) (t .result) (t .last .0) (t .last .1 .0) (t .last .1 .1 .0) (record { cares = omega arith; values = omega arith; sizes = omega arith }) (t .ensures)
 
 same-length : tie.Need-same-length Inv-loop μ-loop
-same-length c = c .before .loop .inv .len-cares
+same-length c = c .before .loop .inv .lengths .cares
 
 same-length-2 : tie.Need-same-length-2 Inv-loop μ-loop
-same-length-2 c = c .before .loop .inv .len-values
+same-length-2 c = c .before .loop .inv .lengths .values
 
 same-length-3 : tie.Need-same-length-3 Inv-loop μ-loop
-same-length-3 c = c .before .loop .inv .len-sizes
+same-length-3 c = c .before .loop .inv .lengths .sizes
 
 returns : tie.Need-returns Inv-loop μ-loop
 returns c =

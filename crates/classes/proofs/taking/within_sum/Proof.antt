@@ -1,12 +1,13 @@
 -- `classes::taking::within_sum` meets its contract. The loop's invariant: what is summed and what is still to come make the whole.
 use mathlib.Core.Path.{_≡_, sym, _∙_}
 use mathlib.Core.Logic.{_⊎_, ⊎-elim}
+use mathlib.Core.Bool.{true, false}
 use Prim.Native.Nat.{_+_, _-_, _≤_}
 use native.Mathlib.Omega.{arith}
 use Rattle.pattern.specs.Filters.{within}
 use Rattle.classes.specs.Steps.{sumIf, rows}
 use borrow.Author.Needs.{needs}
-use Rattle.classes.proofs.Rows.{sum-in, sum-out, sum-end}
+use Rattle.classes.proofs.Rows.{sum-step, sum-end}
 use Rattle.classes.proofs.taking.within_sum.Statement.{statement}
 use Rattle.classes.proofs.taking.within_sum.Tie as tie
 
@@ -46,7 +47,7 @@ add-sum c =
     let a = s .args in
     omega (
       arith,
-      sum-in (λ q. within q (a .p)) (a .cares .now) (a .values .now) (a .sizes .now) _ _ (c .before .before .before .before .before .loop-test .taken) (sym (c .before .if1 .taken) ∙ c .before .before .within .ensures),
+      sum-step (λ q. within q (a .p)) (a .cares .now) (a .values .now) (a .sizes .now) _ _ (c .before .before .before .before .before .loop-test .taken) true (sym (c .before .if1 .taken) ∙ c .before .before .within .ensures),
       c .before .before .before .before .before .before .loop .inv .1,
       s .pre,
     )
@@ -64,13 +65,13 @@ loop-again c =
     (λ t. omega (
       arith,
       t .2,
-      sum-in (λ q. within q (a .p)) (a .cares .now) (a .values .now) (a .sizes .now) _ _ (c .before .before .before .before .loop-test .taken) (sym (t .0 .taken) ∙ c .before .within .ensures),
+      sum-step (λ q. within q (a .p)) (a .cares .now) (a .values .now) (a .sizes .now) _ _ (c .before .before .before .before .loop-test .taken) true (sym (t .0 .taken) ∙ c .before .within .ensures),
       c .before .before .before .before .before .loop .inv .1,
     ))
     (λ t. omega (
       arith,
       t .1,
-      sum-out (λ q. within q (a .p)) (a .cares .now) (a .values .now) (a .sizes .now) _ _ (c .before .before .before .before .loop-test .taken) (sym (t .0 .left) ∙ c .before .within .ensures),
+      sum-step (λ q. within q (a .p)) (a .cares .now) (a .values .now) (a .sizes .now) _ _ (c .before .before .before .before .loop-test .taken) false (sym (t .0 .left) ∙ c .before .within .ensures),
       c .before .before .before .before .before .loop .inv .1,
     ))
     (c .if1 .came)
