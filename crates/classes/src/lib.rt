@@ -10,6 +10,8 @@ ghost use Rattle.classes.specs.Steps.{Room, Gathered};
 mod places;
 pub mod taking;
 
+use pattern::Pattern;
+
 // The class list of the first `count` filters in the lent lists, filter by filter; it stops as soon as more than 512 entries stand.
 fn gather(
     fcares: &[u32],
@@ -27,8 +29,8 @@ fn gather(
     requires formed { ⌜ AllWellFormed width (patternsFrom (now fcares) (now fvalues) 0 count) ⌝ }
     ensures { λ r. ⌜ Gathered width (patternsFrom (now (fcares .entry)) (now (fvalues .entry)) 0 count) r (now (cares .exit)) (now (values .exit)) (now (sizes .exit)) (now (cares .entry)) (now (values .entry)) (now (sizes .entry)) ⌝ }
 {
-    cares[0] = 0;
-    values[0] = 0;
+    cares[0] = Pattern::ALL_FREE.care;
+    values[0] = Pattern::ALL_FREE.value;
     sizes[0] = 1u64 << width;
     let mut n: usize = 1;
     let mut j: usize = 0;

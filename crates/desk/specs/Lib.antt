@@ -1,0 +1,2 @@
+-- What a program that links the library must believe.
+pub mod Sheets
