@@ -6,6 +6,7 @@ pub mod Headers
 pub mod Tally
 pub mod Listed
 pub mod Number
+pub mod Moves
 pub mod Sift
 pub mod Skip
 pub mod Grow

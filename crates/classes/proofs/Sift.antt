@@ -4,9 +4,9 @@ use mathlib.Core.Path.{_≡_, refl, sym, ap, ap₂, _∙_, subst}
 use mathlib.Core.Logic.{_⊎_, inl, inr}
 use mathlib.Core.Bool.{Bool, true, false, not, _&&_, _||_, cond}
 use mathlib.Core.List.{List, [], _∷_}
-use Prim.Native.Nat.{ℕ, zero, _+_, _-_, _^_, _≤_, _<_}
+use Prim.Native.Nat.{ℕ, _+_, _-_, _^_, _≤_, _<_}
 use native.Mathlib.Omega.{arith}
-use lib.Dec.{T, T-not, eqb, eqb→eq, eqb-refl}
+use lib.Dec.{T, T-not, eqb→eq}
 use lib.Bits.{bitAnd, bitOr, or-lt}
 use Rattle.pattern.specs.declared.Pattern.{Pattern}
 use Rattle.pattern.specs.Filters.{hits, within, agree, common, held, WellFormed, count}
@@ -15,68 +15,15 @@ use Rattle.pattern.proofs.Digits.{none, _∩_, _∪_, _≐_, by-bits}
 use Rattle.pattern.proofs.Masks.{x0, x1, x2, x3, sub-lt}
 use Rattle.pattern.proofs.Within.{Within, within-says, hits-says, within-lt, Agree, common-hits, common-fit}
 use Rattle.pattern.proofs.Size.{ind, count-ext, count-fixed, pattern-size}
-use Rattle.classes.specs.Classes.{patOf, same, before, Entry, entry, tally, classList, among, AllWellFormed}
+use Rattle.classes.specs.Classes.{patOf, same, before, Entry, classList, among, AllWellFormed}
 use Rattle.classes.specs.Steps.{sumIf, inside, moved, cut, sift, Sound}
-use Rattle.classes.proofs.Counts.{cond-zero, count-add, count-le, count-same}
+use Rattle.classes.proofs.Counts.{count-add, count-le, count-same}
 use Rattle.classes.proofs.Order.{or-r, or-says, is-true, is-false, same-says, among-first, before-trans, before-asym, before-irrefl, before-care, beforeAll, before-member}
 use Rattle.classes.proofs.Partition.{own, Closed, hits-own}
 use Rattle.classes.proofs.Headers.{pat-miss, pat-hit, pat-fit, pat-closed, care-lt, own-least, closed-common}
-use Rattle.classes.proofs.Tally.{pats, sizeAt, Proper, classSize, sum-tally, before-tally, proper-tally, size-head, list-sizes, list-proper, list-unique, list-has}
+use Rattle.classes.proofs.Tally.{pats, sizeAt, Proper, classSize, size-head, list-sizes, list-proper, list-unique, list-has}
+use Rattle.classes.proofs.Moves.{moved-sum, moved-before, moved-proper}
 use Rattle.classes.proofs.Listed.{listed-of}
-
--- ---- a move of k headers from e to r
-
-pub moved-sum : (t : Pattern → Bool) (e : Entry) (r : Pattern) (k : ℕ) (M : List Entry) → k ≤ e .size
-    → sumIf t (moved e r k M) ≡ cond (t r) k 0 + cond (t (e .pat)) (e .size - k) 0 + sumIf t M
-moved-sum t e r k M h = go (eqb k 0) refl (eqb k (e .size)) refl
-  where
-    go : (x : Bool) → eqb k 0 ≡ x → (y : Bool) → eqb k (e .size) ≡ y
-        → sumIf t (cond x (e ∷ M) (cond y (tally r k M) (entry (e .pat) (e .size - k) ∷ tally r k M))) ≡ cond (t r) k 0 + cond (t (e .pat)) (e .size - k) 0 + sumIf t M
-    go true x y z =
-        let k0 : k ≡ 0 = eqb→eq k 0 (subst T (sym x) tt) in
-        omega (
-          arith,
-          ap (λ (n : ℕ). cond (t r) n 0) k0,
-          cond-zero (t r),
-          ap (λ (n : ℕ). cond (t (e .pat)) n 0) (less k0),
-        )
-      where
-        less : k ≡ 0 → e .size - k ≡ e .size
-        less k0 = omega arith
-    go false x true z =
-        let ks : k ≡ e .size = eqb→eq k (e .size) (subst T (sym z) tt) in
-        omega (arith, sum-tally t r k M, cond-zero (t (e .pat)), ap (λ (n : ℕ). cond (t (e .pat)) n 0) (less ks))
-      where
-        less : k ≡ e .size → e .size - k ≡ 0
-        less ks = omega arith
-    go false x false z = omega (arith, sum-tally t r k M)
-
-pub moved-before : (a : Pattern) (e : Entry) (r : Pattern) (k : ℕ) (M : List Entry) → T (before a (e .pat)) → T (before a r) → T (beforeAll a (pats M))
-    → T (beforeAll a (pats (moved e r k M)))
-moved-before a e r k M p q m = go (eqb k 0) (eqb k (e .size))
-  where
-    go : (x y : Bool) → T (beforeAll a (pats (cond x (e ∷ M) (cond y (tally r k M) (entry (e .pat) (e .size - k) ∷ tally r k M)))))
-    go true y = both (before a (e .pat)) (beforeAll a (pats M)) .1 (p, m)
-    go false true = before-tally a r k M q m
-    go false false = both (before a (e .pat)) (beforeAll a (pats (tally r k M))) .1 (p, before-tally a r k M q m)
-
-pub moved-proper : (e : Entry) (r : Pattern) (k : ℕ) (M : List Entry) → k ≤ e .size → T (before (e .pat) r) → T (beforeAll (e .pat) (pats M))
-    → zero < e .size → Proper M → Proper (moved e r k M)
-moved-proper e r k M h p m s pm = go (eqb k 0) refl (eqb k (e .size)) refl
-  where
-    not-eq : (n : ℕ) → eqb k n ≡ false → k ≡ n → ⊥
-    not-eq n x i = subst T x (subst (λ (j : ℕ). T (eqb k j)) i (eqb-refl k))
-
-    go : (x : Bool) → eqb k 0 ≡ x → (y : Bool) → eqb k (e .size) ≡ y
-        → Proper (cond x (e ∷ M) (cond y (tally r k M) (entry (e .pat) (e .size - k) ∷ tally r k M)))
-    go true x y z = (m, s, pm)
-    go false x true z = proper-tally r k M (let n = not-eq 0 x in omega arith) pm
-    go false x false z =
-        let n = not-eq 0 x in
-        let l = not-eq (e .size) z in
-        (before-tally (e .pat) r k M p m, omega arith, proper-tally r k M (omega arith) pm)
-
--- ---- the step
 
 module _ (w : ℕ) (f : Pattern) (fs : List Pattern) (gf : WellFormed w f) (g : AllWellFormed w fs) where
   -- q is the pattern of some header

@@ -2,12 +2,12 @@
 -- equations for premises, is a test that antt computes over the truth values of its variables (`by-bits`).
 use mathlib.Core.Path.{_≡_, refl, sym, ap, ap₂, _∙_, subst}
 use mathlib.Core.Bool.{Bool, true, false, not, _&&_, _||_, Bool·beq}
-use mathlib.Core.List.{List, [], _∷_, map}
-use Prim.Native.Nat.{ℕ, zero, suc, _+_, _*_, _/_, _%_, _<_, min, max, suc-le-suc}
+use mathlib.Core.List.{List, [], _∷_}
+use Prim.Native.Nat.{ℕ, zero, suc, _+_, _*_, _/_, _%_, _<_, min, max}
 use native.Mathlib.Nat.{mod-lt, zero-lt-suc, div-add-mod', le-of-suc-le-suc, not-suc-le-zero, zero-min, min-zero, suc-min-suc, zero-max, max-zero, suc-max-suc}
 use native.Mathlib.Omega.{arith}
 use lib.Dec.{T}
-use lib.ListN.{length, getD, List·getD-map}
+use lib.ListN.{length, getD}
 use lib.Arith.{bin-ind, digits-div, digits-mod}
 use lib.Bits.{bitAnd, bitOr, bitXor, differ, and-step, or-step, xor-step}
 

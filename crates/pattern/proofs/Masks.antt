@@ -1,18 +1,18 @@
 -- The order of masks (every bit of a is one of b), the low ones, and the complement that the second notation means.
-use mathlib.Core.Path.{_≡_, refl, sym, ap, ap₂, _∙_, subst}
-use mathlib.Core.Logic.{_≢_, _↔_}
+use mathlib.Core.Path.{_≡_, refl, sym, ap, _∙_}
+use mathlib.Core.Logic.{_≢_}
 use mathlib.Core.Bool.{Bool, true, false, not, _&&_}
-use mathlib.Core.List.{List, [], _∷_}
+use mathlib.Core.List.{[], _∷_}
 use Prim.Native.Nat.{ℕ, zero, suc, _-_, _/_, _%_, _^_, _≤_, _<_, zero-le}
 use lib.Arith.{lt-of-le-ne}
-use lib.Bits.{bitAnd, bitOr, bitXor, and-le-r, and-mask, xor-lt}
+use lib.Bits.{bitAnd, bitOr, and-le-r, and-mask, xor-lt}
 use lib.Dec.{ltb, leb·suc-suc}
 use lib.Pow.{ones-lt, pow-pos}
 use borrow.Author.Tests.{lt-ltb, le-ltb}
 use native.Mathlib.Nat.{le-trans, le-of-eq, mod-eq-of-lt, pow-suc, zero-lt-suc}
 use native.Mathlib.Omega.{arith}
 use Rattle.pattern.specs.Notations.{complement, caringOf, freeingOf, notedOf}
-use Rattle.pattern.proofs.Digits.{Ex, Eqn, var, none, _∩_, _∪_, _⊻_, _≐_, by-bits, bit, bit-zero, bit-and, bit-xor, pos, odd}
+use Rattle.pattern.proofs.Digits.{Ex, var, _∩_, _∪_, _≐_, by-bits, bit, bit-zero, bit-and, bit-xor, pos, odd}
 
 abbrev pub x0 : Ex
 x0 = var 0
@@ -29,9 +29,6 @@ x3 = var 3
 abbrev pub x4 : Ex
 x4 = var 4
 
-pub and-assoc : (a b c : ℕ) → bitAnd (bitAnd a b) c ≡ bitAnd a (bitAnd b c)
-and-assoc a b c = by-bits (a ∷ b ∷ c ∷ []) [] ((x0 ∩ x1) ∩ x2 ≐ x0 ∩ (x1 ∩ x2)) tt
-
 pub or-assoc : (a b c : ℕ) → bitOr (bitOr a b) c ≡ bitOr a (bitOr b c)
 or-assoc a b c = by-bits (a ∷ b ∷ c ∷ []) [] ((x0 ∪ x1) ∪ x2 ≐ x0 ∪ (x1 ∪ x2)) tt
 
@@ -39,9 +36,6 @@ or-assoc a b c = by-bits (a ∷ b ∷ c ∷ []) [] ((x0 ∪ x1) ∪ x2 ≐ x0 �
 
 pub sub-antisym : (a b : ℕ) → bitAnd a b ≡ a → bitAnd b a ≡ b → a ≡ b
 sub-antisym a b = by-bits (a ∷ b ∷ []) ((x0 ∩ x1 ≐ x0) ∷ (x1 ∩ x0 ≐ x1) ∷ []) (x0 ≐ x1) tt
-
-pub sub-trans : (a b c : ℕ) → bitAnd a b ≡ a → bitAnd b c ≡ b → bitAnd a c ≡ a
-sub-trans a b c = by-bits (a ∷ b ∷ c ∷ []) ((x0 ∩ x1 ≐ x0) ∷ (x1 ∩ x2 ≐ x1) ∷ []) (x0 ∩ x2 ≐ x0) tt
 
 pub sub-le : (a b : ℕ) → bitAnd a b ≡ a → a ≤ b
 sub-le a b e = le-trans (le-of-eq (sym e)) (and-le-r a b)

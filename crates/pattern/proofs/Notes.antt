@@ -1,13 +1,12 @@
 -- What `filter_of` answers on each of its ways, from the tests that led there.
-use mathlib.Core.Path.{_≡_, refl, sym, ap, _∙_}
+use mathlib.Core.Path.{_≡_}
 use mathlib.Core.Bool.{true, false}
 use Prim.Native.Nat.{ℕ, _-_, _^_, _≤_, _<_}
 use native.Mathlib.Omega.{arith}
 use lib.Bits.{bitAnd}
-use lib.Dec.{ltb, eqb}
+use lib.Dec.{ltb}
 use lib.Pow.{pow-pos}
 use borrow.Author.Tests.{lt-ltb, le-ltb, eq-eqb, ne-eqb}
-use Rattle.pattern.specs.declared.Noted.{Noted}
 use Rattle.pattern.specs.declared.Noted.the-variants.{Fine, WideMask, WideValue, ValueAtFree}
 use Rattle.pattern.specs.Notations.{notedOf}
 

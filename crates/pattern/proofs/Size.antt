@@ -1,14 +1,14 @@
 -- How many headers a pattern holds: 2 to the number of its free bits. And the laws of counting.
 use mathlib.Core.Path.{_≡_, refl, sym, ap, ap₂, _∙_, subst}
-use mathlib.Core.Bool.{Bool, true, false, not, _&&_, cond}
-use Prim.Native.Nat.{ℕ, zero, suc, _+_, _-_, _*_, _/_, _%_, _^_, _≤_, _<_, min, max}
-use native.Mathlib.Nat.{add-zero, zero-sub, suc-mul, pow-suc, mod-lt, zero-lt-suc, lt-suc-self, lt-trans, le-refl, not-suc-le-zero, le-of-suc-le-suc}
+use mathlib.Core.Bool.{Bool, true, false, _&&_, cond}
+use Prim.Native.Nat.{ℕ, zero, suc, _+_, _-_, _*_, _/_, _%_, _^_, _≤_, _<_, min}
+use native.Mathlib.Nat.{add-zero, zero-sub, pow-suc, mod-lt, zero-lt-suc, lt-suc-self, lt-trans, le-refl, not-suc-le-zero, le-of-suc-le-suc}
 use native.Mathlib.Omega.{arith}
 use lib.Arith.{lt-one, digits-div, digits-mod}
-use lib.Pow.{pow-add, pow-pos, shr-lt}
+use lib.Pow.{pow-add, shr-lt}
 use native.Mathlib.Numerals.{add-one}
-use lib.Dec.{T, eqb, eqb→eq, eqb-refl}
-use lib.Bits.{bitAnd, bitOr, and-step, and-shr, and-zero-r}
+use lib.Dec.{eqb, eqb→eq}
+use lib.Bits.{bitAnd, and-step, and-shr, and-zero-r}
 use lib.Count.{ones, ones-step, ones-le}
 use Rattle.pattern.specs.declared.Pattern.{Pattern}
 use Rattle.pattern.specs.Filters.{hits, held, WellFormed, count}

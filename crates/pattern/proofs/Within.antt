@@ -1,17 +1,17 @@
 -- Containment and common part of patterns, as equations of masks and as what they say of headers.
-use mathlib.Core.Path.{_≡_, refl, sym, ap, ap₂, _∙_, subst}
+use mathlib.Core.Path.{_≡_, sym, ap, _∙_}
 use mathlib.Core.Logic.{_↔_, _≢_}
-use mathlib.Core.Bool.{Bool, true, false, not, _&&_}
+use mathlib.Core.Bool.{Bool, true, _&&_}
 use mathlib.Core.List.{List, [], _∷_}
-use Prim.Native.Nat.{ℕ, zero, suc, _-_, _≤_, _<_, _^_}
+use Prim.Native.Nat.{ℕ, _-_, _<_, _^_}
 use native.Mathlib.Nat.{lt-of-le-of-lt}
 use lib.Dec.{T, eqb, eqb→eq}
 use lib.Bits.{bitAnd, bitOr, bitXor, and-comm, and-le-r, and-zero-r, or-lt, xor-lt}
 use Rattle.pattern.specs.declared.Pattern.{Pattern}
 use Rattle.pattern.specs.Filters.{hits, within, agree, common, headerOf, allFree}
 use Rattle.pattern.proofs.Tests.{eq→eqb, both, iff-eq}
-use Rattle.pattern.proofs.Digits.{Ex, Eqn, var, none, _∩_, _∪_, _⊻_, _≐_, by-bits}
-use Rattle.pattern.proofs.Masks.{x0, x1, x2, x3, x4, sub-antisym, sub-lt, low-ones}
+use Rattle.pattern.proofs.Digits.{Eqn, _∩_, _∪_, _⊻_, _≐_, by-bits}
+use Rattle.pattern.proofs.Masks.{x0, x1, x2, x3, x4, sub-lt, low-ones}
 
 -- p's value has no one at a free bit
 abbrev pub Fit : Pattern → Type 0

@@ -13,7 +13,7 @@ use lib.ListN.{length, getD, take, drop, List·getD-append}
 use Rattle.pattern.specs.declared.Pattern.{Pattern}
 use Rattle.pattern.specs.Filters.{WellFormed}
 use Rattle.reading.specs.declared.ReadAnswer.{ReadAnswer}
-use Rattle.reading.specs.declared.ReadAnswer.the-variants.{Refused as answer-refused, Accepted}
+use Rattle.reading.specs.declared.ReadAnswer.the-variants.{Refused as answer-refused}
 use Rattle.reading.specs.declared.Action.{Action}
 use Rattle.reading.specs.declared.Action.the-variants.{Forward, Drop, Deliver}
 use Rattle.reading.specs.declared.Rule.{Rule}
@@ -237,21 +237,6 @@ rules-lead s net e = go (rulesOf net) (accepted-is-bounded s net e .next-nodes)
     go : (rs : List Rule) → Every (λ r. NextBelow (length (net .tables)) (r .action)) rs → Every (λ r. leadsIn (length (net .tables)) (r .action) ≡ true) rs
     go [] h = tt
     go (r ∷ rs) h = (below-leads (length (net .tables)) (r .action) (h .0), go rs (h .1))
-
--- An answer with figures is an accepted network's.
-pub record AcceptedAs (s : List ℕ) (w n k : ℕ) : Type 0 where
-  pub net : Network
-  pub parsed : parse s ≡ accepted net
-  pub width : net .width ≡ w
-  pub nodes : length (net .tables) ≡ n
-  pub rules : length (rulesOf net) ≡ k
-
-pub accepted-as : (s : List ℕ) (w n k : ℕ) → Accepted w n k ≡ readOf s → AcceptedAs s w n k
-accepted-as s w n k e = go (parse s) refl e
-  where
-    go : (x : Parsed) → parse s ≡ x → Accepted w n k ≡ answerOf x → AcceptedAs s w n k
-    go (refused m p) q e = let z : _≡_ {A = ℕ} 0 1 = cc in absurd (no-one z)
-    go (accepted net) q e = record { net = net; parsed = q; width = cc; nodes = cc; rules = cc }
 
 -- ---- No answer depends on bytes past the first 4,096, and an accepted file is shorter by far.
 pub only-the-first-4096-bytes : (s : List ℕ) → readOf (take 4096 s) ≡ readOf s

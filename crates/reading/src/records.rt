@@ -2,9 +2,9 @@
 use crate::Action;
 ghost use mathlib.Core.Path.{_≡_};
 ghost use Prim.Native.Nat.{_+_, _≤_, _<_};
-ghost use lib.ListN.{length, getD};
+ghost use lib.ListN.{length};
 ghost use Rattle.reading.specs.Kinds.{shapeOf, numberAt};
-ghost use Rattle.reading.specs.Code.{ruleShape, writtenAt, actionAt, shapedAt, wholeAt, recordAt, Whole};
+ghost use Rattle.reading.specs.Code.{ruleShape, writtenAt, actionAt, wholeAt, recordAt, Whole};
 
 // The two notations of a mask: its ones are the cared bits, or the free ones.
 pub enum Notation {

@@ -1,13 +1,14 @@
 -- Paper 01, "The printed verdict", of a file that is judged: the three counts, the class count, one line for each class of the class list in its order, and the verdict.
 use Prim.Native.Nat.{ℕ, _-_, _≤_}
-use mathlib.Core.Bool.{Bool, true, false, cond}
-use mathlib.Core.List.{List, [], _∷_, _++_, map, append-assoc}
-use mathlib.Core.Path.{_≡_, refl, ap, _∙_}
+use mathlib.Core.Bool.{Bool, false, cond}
+use mathlib.Core.List.{List, [], _∷_, _++_, map}
+use mathlib.Core.Path.{_≡_, ap, _∙_}
 use borrow.Author.Tests.{le-leb}
-use lib.ListN.{length, drop, replicate}
+use lib.ListN.{length}
 use Rattle.reading.specs.Network.{Network, rulesOf}
 use Rattle.reading.specs.File.{Parsed, accepted, parse}
-use Rattle.classes.specs.Classes.{Entry, laid, careAt, valueAt, sizeOf}
+use Rattle.classes.specs.Classes.{Entry, careAt, valueAt, sizeOf}
+use Rattle.classes.proofs.Laid.{after, laid-split}
 use Rattle.rounds.specs.Rounds.{cycleBytes}
 use Rattle.judge.specs.declared.JudgeAnswer.the-variants.{Refused, Judged}
 use Rattle.judge.specs.Forwarding.{nodesOf}
@@ -15,10 +16,6 @@ use Rattle.judge.specs.Verdicts.{verdictOf, cycleIn}
 use Rattle.judge.specs.Judging.{Lent, lentOf, Judgement, judgement, written, tooShort, classesOf, judgedOf, onParsed, judgeOf}
 use Rattle.printing.specs.Lines.{countsLine, classesLine, classLine, verdictLine, classLines, lines}
 use Rattle.printing.proofs.Meaning.{class-list-lines}
-
--- What stands in a list after the figures of the classes.
-abbrev after : List Entry → List ℕ → List ℕ
-after L xs = replicate (1024 - length L) 0 ++ drop 1024 xs
 
 module _ (file : List ℕ) (old : Lent) (net : Network) (long : tooShort old ≡ false) (e : parse file ≡ accepted net) (few : length (classesOf net) ≤ 512) where
   judged : judgeOf file old ≡ judgement (Judged (net .width) (nodesOf net) (length (rulesOf net)) (length (classesOf net)) (verdictOf net)) (written (classesOf net) (cycleIn net (verdictOf net)) old)
@@ -43,12 +40,9 @@ module _ (file : List ℕ) (old : Lent) (net : Network) (long : tooShort old ≡
       (regrouped L ∙ class-list-lines (λ (k : Entry). k .pat) (λ (k : Entry). k .size) (net .width) L
       (after L (old .cares)) (after L (old .values)) (after L (old .sizes)) (cycleBytes (cycleIn net (verdictOf net)) (old .cycle)))
     where
-      figures : (f : Entry → ℕ) (L : List Entry) (xs : List ℕ) → laid f L xs ≡ map f L ++ after L xs
-      figures f L xs = append-assoc (map f L) (replicate (1024 - length L) 0) (drop 1024 xs)
-
       regrouped : (L : List Entry)
           → classLines (net .width) (written L (cycleIn net (verdictOf net)) old) 0 (length L)
           ≡ classLines (net .width) (lentOf (map careAt L ++ after L (old .cares)) (map valueAt L ++ after L (old .values)) (map sizeOf L ++ after L (old .sizes)) (cycleBytes (cycleIn net (verdictOf net)) (old .cycle))) 0 (length L)
       regrouped L =
           ap (λ (l : Lent). classLines (net .width) l 0 (length L))
-          (λ i. lentOf (figures careAt L (old .cares) i) (figures valueAt L (old .values) i) (figures sizeOf L (old .sizes) i) (cycleBytes (cycleIn net (verdictOf net)) (old .cycle)))
+          (λ i. lentOf (laid-split careAt L (old .cares) i) (laid-split valueAt L (old .values) i) (laid-split sizeOf L (old .sizes) i) (cycleBytes (cycleIn net (verdictOf net)) (old .cycle)))

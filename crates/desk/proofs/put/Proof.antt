@@ -1,9 +1,8 @@
 -- `desk::put` meets its contract: six stores at the front are the six figures before the rest of the list.
 use borrow.Author.Needs.{needs}
 use mathlib.Core.Path.{refl}
-use Prim.Native.Nat.{_≤_}
 use native.Mathlib.Omega.{arith}
-use lib.ListN.{length, length-set}
+use lib.ListN.{length-set}
 use Rattle.desk.proofs.Laid.{six-stores}
 use Rattle.desk.proofs.put.Statement.{statement}
 use Rattle.desk.proofs.put.Tie as tie

@@ -1,6 +1,6 @@
 -- `low_ones` meets its contract: the shift loses nothing.
 use borrow.Author.Needs.{needs}
-use mathlib.Core.Path.{_≡_, _∙_, ap, sym}
+use mathlib.Core.Path.{_≡_, _∙_, ap}
 use Prim.Native.Nat.{ℕ, _-_, _^_, _≤_, _*_, _%_}
 use native.Mathlib.Nat.{one-mul}
 use native.Mathlib.Omega.{arith}

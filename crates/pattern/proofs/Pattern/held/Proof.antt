@@ -1,7 +1,7 @@
 -- `Pattern::held` meets its contract: no more bits are cared for than there are, and the shift loses nothing.
 use borrow.Author.Needs.{needs}
 use mathlib.Core.Path.{_∙_}
-use Prim.Native.Nat.{_-_, _^_, _≤_, _+_}
+use Prim.Native.Nat.{_-_, _^_}
 use native.Mathlib.Nat.{one-mul}
 use native.Mathlib.Omega.{arith}
 use lib.Count.{ones, ones-le}

@@ -2,7 +2,6 @@
 use borrow.Author.Needs.{needs}
 use mathlib.Core.Path.{ap}
 use Prim.Native.Nat.{ℕ}
-use Rattle.pattern.specs.declared.Pattern.{Pattern}
 use Rattle.pattern.proofs.Pattern.of_header.Statement.{statement}
 use Rattle.pattern.proofs.Pattern.of_header.Tie as tie
 
