@@ -149,19 +149,19 @@ static struct draft case_m(void) {
     return d;
 }
 
-// 480 patterns that all hold the header 0, from eleven filters; then, in what is common to them, every filter on five
-// more bits, those with more cared bits first. Each of these 243 agrees with all the patterns and lies within none, none
-// is the common part of earlier ones, and only the first 32 add a class.
+// 448 patterns that all hold the header 0, from ten filters; then, in what is common to them, 246 filters on six more bits,
+// those with more cared bits first. Each of these agrees with all the patterns and lies within none, none is the common
+// part of earlier ones, and only the first 64 add a class.
 static struct draft worst_sifting(void) {
-    static const uint32_t holding[11] = {0x001, 0x002, 0x004, 0x008, 0x010, 0x020, 0x040, 0x080, 0x101, 0x207, 0x41F};
+    static const uint32_t holding[10] = {0x001, 0x002, 0x004, 0x008, 0x010, 0x020, 0x040, 0x080, 0x101, 0x207};
     struct draft d = {32, 2, 0, {0}, {0}, {{0, 0}}};
-    for (int i = 0; i < 11; i++)
+    for (int i = 0; i < 10; i++)
         add(&d, 0, (struct pattern){holding[i], 0}, DROP);
-    for (int cared = 5; cared >= 0; cared--)
-        for (uint32_t care = 0; care < 32; care++)
-            for (uint32_t value = 0; value < 32; value++)
+    for (int cared = 6; cared >= 0; cared--)
+        for (uint32_t care = 0; care < 64; care++)
+            for (uint32_t value = 0; value < 64; value++)
                 if (__builtin_popcount(care) == cared && (value & care) == value && d.rules < RULES)
-                    add(&d, 1, (struct pattern){0x7FF | care << 11, value << 11}, 1);
+                    add(&d, 1, (struct pattern){0x3FF | care << 10, value << 10}, 1);
     return d;
 }
 

@@ -31,9 +31,10 @@ pub fn within_sum(
     while j < n {
         let care = cares[j];
         let value = values[j];
+        let size = sizes[j];
         let q = Pattern { care, value };
         if q.within(p) {
-            sum = sum + sizes[j];
+            sum = sum + size;
         }
         j = j + 1;
     }

@@ -32,14 +32,14 @@ mul-value c = omega arith
 shared-slice-read-value : tie.Need-shared-slice-read-value Inv-loop μ-loop
 shared-slice-read-value c = omega arith
 
+mul-size : tie.Need-mul-size Inv-loop μ-loop
+mul-size c = omega arith
+
+shared-slice-read-size : tie.Need-shared-slice-read-size Inv-loop μ-loop
+shared-slice-read-size c = omega arith
+
 within-requires : tie.Need-within-requires Inv-loop μ-loop
 within-requires c κs = search needs
-
-mul-sum : tie.Need-mul-sum Inv-loop μ-loop
-mul-sum c = omega arith
-
-shared-slice-read-sum : tie.Need-shared-slice-read-sum Inv-loop μ-loop
-shared-slice-read-sum c = omega arith
 
 add-sum : tie.Need-add-sum Inv-loop μ-loop
 add-sum c =
@@ -47,7 +47,7 @@ add-sum c =
     let a = s .args in
     omega (
       arith,
-      sum-step (λ q. within q (a .p)) (a .cares .now) (a .values .now) (a .sizes .now) _ _ (c .before .before .before .before .before .loop-test .taken) true (sym (c .before .if1 .taken) ∙ c .before .before .within .ensures),
+      sum-step (λ q. within q (a .p)) (a .cares .now) (a .values .now) (a .sizes .now) _ _ (c .before .before .before .before .before .loop-test .taken) true (sym (c .if1 .taken) ∙ c .before .within .ensures),
       c .before .before .before .before .before .before .loop .inv .1,
       s .pre,
     )
@@ -60,19 +60,19 @@ loop-less c = omega arith
 
 loop-again : tie.Need-loop-again Inv-loop μ-loop
 loop-again c =
-    let a = c .before .before .before .before .before .before .before .before .before .args in
+    let a = c .before .before .before .before .before .before .before .before .before .before .args in
     ⊎-elim
     (λ t. omega (
       arith,
-      t .2,
-      sum-step (λ q. within q (a .p)) (a .cares .now) (a .values .now) (a .sizes .now) _ _ (c .before .before .before .before .loop-test .taken) true (sym (t .0 .taken) ∙ c .before .within .ensures),
-      c .before .before .before .before .before .loop .inv .1,
+      t .1,
+      sum-step (λ q. within q (a .p)) (a .cares .now) (a .values .now) (a .sizes .now) _ _ (c .before .before .before .before .before .loop-test .taken) true (sym (t .0 .taken) ∙ c .before .within .ensures),
+      c .before .before .before .before .before .before .loop .inv .1,
     ))
     (λ t. omega (
       arith,
       t .1,
-      sum-step (λ q. within q (a .p)) (a .cares .now) (a .values .now) (a .sizes .now) _ _ (c .before .before .before .before .loop-test .taken) false (sym (t .0 .left) ∙ c .before .within .ensures),
-      c .before .before .before .before .before .loop .inv .1,
+      sum-step (λ q. within q (a .p)) (a .cares .now) (a .values .now) (a .sizes .now) _ _ (c .before .before .before .before .before .loop-test .taken) false (sym (t .0 .left) ∙ c .before .within .ensures),
+      c .before .before .before .before .before .before .loop .inv .1,
     ))
     (c .if1 .came)
 
@@ -92,9 +92,9 @@ within-sum-spec =
     shared-slice-read-care
     mul-value
     shared-slice-read-value
+    mul-size
+    shared-slice-read-size
     within-requires
-    mul-sum
-    shared-slice-read-sum
     add-sum
     add-j
     loop-less
