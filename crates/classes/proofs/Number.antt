@@ -104,7 +104,7 @@ classes-prefix w fs gs =
 
 -- ---- the length of the class list
 
-pats-length : (L : List Entry) → length (pats L) ≡ length L
+pub pats-length : (L : List Entry) → length (pats L) ≡ length L
 pats-length [] = refl
 pats-length (e ∷ L) = ap suc (pats-length L)
 

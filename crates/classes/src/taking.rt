@@ -41,18 +41,20 @@ pub fn within_sum(
     sum
 }
 
-// Whether `p` comes before `q` in the order of the list.
-fn comes_before(p: Pattern, q: Pattern) -> bool
-    ensures { λ r. ⌜ r ≡ before p q ⌝ }
-{
-    p.care < q.care || p.care == q.care && p.value < q.value
-}
-
 // Whether `p` and `q` are the same pattern.
 fn is_same(p: Pattern, q: Pattern) -> bool
     ensures { λ r. ⌜ r ≡ same p q ⌝ }
 {
     p.care == q.care && p.value == q.value
+}
+
+// Whether the entry at place `j` comes before `p`.
+fn comes_before(cares: &[u32], values: &[u32], j: usize, p: Pattern) -> bool
+    requires cares { do ⌜ j < (← ⟦cares.len()⟧) ⌝ }
+    requires values { do ⌜ j < (← ⟦values.len()⟧) ⌝ }
+    ensures { λ r. ⌜ r ≡ before (patternAt (now (cares .entry)) (now (values .entry)) j) p ⌝ }
+{
+    cares[j] < p.care || cares[j] == p.care && values[j] < p.value
 }
 
 // The first place from `from` to `n` whose entry is not before `p`.
@@ -64,10 +66,7 @@ fn place(cares: &[u32], values: &[u32], from: usize, n: usize, p: Pattern) -> us
 {
     let mut j = from;
     while j < n {
-        let care = cares[j];
-        let value = values[j];
-        let q = Pattern { care, value };
-        if comes_before(q, p) {
+        if comes_before(cares, values, j, p) {
             j = j + 1;
         } else {
             return j;

@@ -1,23 +1,22 @@
 -- The verdict from the class list: no class's pattern goes round and no header does; or the least header of those that do.
 use mathlib.Core.Path.{_≡_, refl, sym, _∙_, ap, ap₂, subst}
-use mathlib.Core.Logic.{_↔_}
 use mathlib.Core.Bool.{Bool, true, false}
 use mathlib.Core.List.{List, _++_, map}
 use Prim.Native.Nat.{ℕ, _^_, _≤_, _<_, zero-le}
 use native.Mathlib.Omega.{arith}
 use lib.Dec.{T}
 use lib.ListN.{length, drop}
-use lib.Pow.{pow-pos}
 use Rattle.pattern.specs.declared.Pattern.{Pattern}
-use Rattle.pattern.specs.Filters.{hits, allFree, WellFormed}
-use Rattle.pattern.proofs.Within.{all-free-hits}
+use Rattle.pattern.specs.Filters.{WellFormed}
 use Rattle.reading.specs.Network.{Network, filters}
 use Rattle.classes.specs.Classes.{patOf, patternsFrom, AllWellFormed}
-use Rattle.classes.proofs.Tally.{pats}
+use Rattle.classes.proofs.Tally.{pats, list-has}
+use Rattle.classes.proofs.Listed.{listed-of}
+use Rattle.classes.proofs.Number.{pats-length}
 use Rattle.classes.proofs.Laid.{laid-patterns}
-use Rattle.least.specs.Steps.{recount, Enough, someOf, search, markOf}
-use Rattle.least.proofs.Marked.{Marked}
-use Rattle.least.proofs.LeastHeader.{tells, least-is, class-enough, marks-are}
+use Rattle.least.specs.Steps.{recount, Enough, someMarked, someOf, search, markOf}
+use Rattle.least.proofs.Marked.{Marked, any-found, any-there}
+use Rattle.least.proofs.LeastHeader.{least-is, class-enough, marks-are}
 use Rattle.judge.specs.declared.Verdict.the-variants.{Free, Loop}
 use Rattle.judge.specs.Forwarding.{queryOf}
 use Rattle.judge.specs.Verdicts.{loops, verdictOf}
@@ -42,28 +41,28 @@ module _ (net : Network) (good : AllWellFormed (net .width) (filters net)) where
     abbrev pub found : ℕ
     found = search under (net .width) (net .width) 0
 
-    every : T (under allFree) ↔ ((h : ℕ) × (h < 2 ^ (net .width)) × T (hits allFree h) × T (loops net (patOf (filters net) h)))
-    every = tells (net .width) (filters net) good (loops net) marks marked allFree (pow-pos (net .width), refl)
-
-    -- no header of a marked class stands under the prefix that every header has
-    pub says-free : under allFree ≡ false → verdictOf net ≡ Free
+    -- no class is marked, and each header is in one
+    pub says-free : someMarked marks marks 0 (length (pats (classesOf net))) ≡ false → verdictOf net ≡ Free
     unfolding verdictOf
     says-free e =
         first-is (λ h. loops net (queryOf net h)) (2 ^ (net .width)) Free
-        (λ h _ l t. subst T e (every .1 (h, l, all-free-hits h, to-class h l t)))
+        (λ h _ l t. subst T e (any-there (loops net) marks 0 (pats (classesOf net)) marked (patOf (filters net) h) (list-has (net .width) (filters net) h l) (to-class h l t)))
 
-    -- some does, and the one found is the least
-    pub says-loop : under allFree ≡ true → verdictOf net ≡ Loop found
+    -- some class is marked, and none is empty; the header found is the least
+    pub says-loop : someMarked marks marks 0 (length (pats (classesOf net))) ≡ true → verdictOf net ≡ Loop found
     unfolding verdictOf
     says-loop e =
         first-is (λ h. loops net (queryOf net h)) (2 ^ (net .width)) (Loop found)
         (zero-le, least .0, to-header found (least .0) (least .1), λ h _ lt t. omega (arith, least .2 h (omega (arith, lt, least .0)) (to-class h (omega (arith, lt, least .0)) t)))
       where
-        some : (h : ℕ) × (h < 2 ^ (net .width)) × T (hits allFree h) × T (loops net (patOf (filters net) h))
-        some = every .0 (subst T (sym e) tt)
+        some : (h : ℕ) × (h < 2 ^ (net .width)) × T (loops net (patOf (filters net) h))
+        some =
+            let p = any-found (loops net) marks 0 (pats (classesOf net)) marked (subst T (sym e) tt) in
+            let h = listed-of (net .width) (filters net) (p .0) (p .1) in
+            (h .0, h .1, subst (λ (q : Pattern). T (loops net q)) (sym (h .2)) (p .2))
 
         least : (found < 2 ^ (net .width)) × T (loops net (patOf (filters net) found)) × ((g : ℕ) → g < 2 ^ (net .width) → T (loops net (patOf (filters net) g)) → found ≤ g)
-        least = least-is (net .width) (filters net) good (loops net) marks marked (some .0) (some .1) (some .3)
+        least = least-is (net .width) (filters net) good (loops net) marks marked (some .0) (some .1) (some .2)
 
 -- ---- the same of the lists that the code holds: the class list's care masks and values, and the marks
 
@@ -90,10 +89,13 @@ module _ (net : Network) (w : ℕ) (width : net .width ≡ w) (cares values : Li
     same-test : test (net .width) (pats (classesOf net)) ≡ test w (patternsFrom cares values 0 n)
     same-test = ap₂ test width (sym patterns)
 
-    pub lists-free : false ≡ test w (patternsFrom cares values 0 n) allFree → verdictOf net ≡ Free
-    lists-free e = says-free net (l .formed) marks marked (ap (λ f. f allFree) same-test ∙ sym e)
+    marked-too : someMarked marks marks 0 (length (pats (classesOf net))) ≡ someMarked marks marks 0 n
+    marked-too = ap (someMarked marks marks 0) (pats-length (classesOf net) ∙ sym (l .many))
 
-    pub lists-loop : true ≡ test w (patternsFrom cares values 0 n) allFree → verdictOf net ≡ Loop (search (test w (patternsFrom cares values 0 n)) w w 0)
+    pub lists-free : false ≡ someMarked marks marks 0 n → verdictOf net ≡ Free
+    lists-free e = says-free net (l .formed) marks marked (marked-too ∙ sym e)
+
+    pub lists-loop : true ≡ someMarked marks marks 0 n → verdictOf net ≡ Loop (search (test w (patternsFrom cares values 0 n)) w w 0)
     lists-loop e =
-        says-loop net (l .formed) marks marked (ap (λ f. f allFree) same-test ∙ sym e)
+        says-loop net (l .formed) marks marked (marked-too ∙ sym e)
         ∙ ap Loop (ap₂ (λ (f : Pattern → Bool) (k : ℕ). search f k k 0) same-test width)

@@ -82,8 +82,7 @@ pub fn decide(
     let mut marks = [0u8; 512];
     let mut counts = [0u64; 512];
     mark_all(file, begins, nodes, width, cares, values, n, &mut marks);
-    let all = Pattern::ALL_FREE;
-    if least::some_under(cares, values, &marks, &mut counts, n, width, all) {
+    if least::any_marked(&marks, n) {
         let header = least::least(cares, values, &marks, &mut counts, n, width);
         write_loop(file, begins, nodes, width, header, cycle);
         return Verdict::Loop(header);

@@ -1,19 +1,19 @@
--- Some marked class has a header under a prefix: as the counts say it, and as a header that says so.
+-- Some marked class has a header under a prefix: as the counts say it, and as a header that says so. Some class is marked at all.
 use mathlib.Core.Path.{_≡_, refl, sym, ap, _∙_, subst}
 use mathlib.Core.Logic.{_⊎_, inl, inr}
-use mathlib.Core.Bool.{Bool, true, false, not, _&&_}
+use mathlib.Core.Bool.{Bool, true, false, not, _&&_, _||_}
 use mathlib.Core.List.{List, [], _∷_, map}
 use Prim.Native.Nat.{ℕ, zero, suc, _^_, _<_}
 use native.Mathlib.Omega.{arith}
 use lib.Dec.{T, eqb}
-use lib.ListN.{getD}
+use lib.ListN.{getD, length}
 use borrow.Author.Tests.{ne-eqb}
 use Rattle.pattern.specs.declared.Pattern.{Pattern}
 use Rattle.pattern.proofs.Tests.{both}
 use Rattle.classes.specs.Classes.{same, among}
-use Rattle.least.specs.Steps.{someOf}
+use Rattle.least.specs.Steps.{someMarked, someOf}
 use Rattle.classes.proofs.Counts.{count-some, count-pos}
-use Rattle.classes.proofs.Order.{or-l, or-r, or-says, same-says}
+use Rattle.classes.proofs.Order.{or-l, or-r, or-says, same-says, among-first}
 use Rattle.least.proofs.Counts.{part, counted}
 
 not-not : (b : Bool) → not (not b) ≡ b
@@ -68,3 +68,27 @@ module _ (w : ℕ) (g : ℕ → Pattern) (t : ℕ → Bool) (goes : Pattern → 
           → T (someOf marks j (map (counted w g t) (p ∷ K)))
       go rest (inl s) = or-l (not (eqb (getD marks j 0) 0) && not (eqb (part w g t p) 0)) (someOf marks (suc j) (map (counted w g t) K)) (here s)
       go rest (inr s) = or-r (not (eqb (getD marks j 0) 0) && not (eqb (part w g t p) 0)) (someOf marks (suc j) (map (counted w g t) K)) (rest s)
+
+module _ (goes : Pattern → Bool) (marks : List ℕ) where
+  pub any-found : (j : ℕ) (K : List Pattern) → Marked goes marks j K → T (someMarked marks marks j (length K)) → (p : Pattern) × T (among p K) × T (goes p)
+  unfolding someMarked
+  any-found j [] m s = absurd s
+  any-found j (p ∷ K) m s =
+      go (any-found (suc j) K (m .1)) (or-says (not (eqb (getD marks j 0) 0) && not (eqb (getD marks j 0) 0)) (someMarked marks marks (suc j) (length K)) s)
+    where
+      go : (T (someMarked marks marks (suc j) (length K)) → (q : Pattern) × T (among q K) × T (goes q))
+          → T (not (eqb (getD marks j 0) 0) && not (eqb (getD marks j 0) 0)) ⊎ T (someMarked marks marks (suc j) (length K)) → (q : Pattern) × T (among q (p ∷ K)) × T (goes q)
+      go rest (inl t) = (p, among-first p K, subst T (ap not (m .0) ∙ not-not (goes p)) (both (not (eqb (getD marks j 0) 0)) (not (eqb (getD marks j 0) 0)) .0 t .0))
+      go rest (inr t) = let r = rest t in (r .0, or-r (same (r .0) p) (among (r .0) K) (r .1), r .2)
+
+  pub any-there : (j : ℕ) (K : List Pattern) → Marked goes marks j K → (q : Pattern) → T (among q K) → T (goes q) → T (someMarked marks marks j (length K))
+  unfolding someMarked
+  any-there j [] m q a b = absurd a
+  any-there j (p ∷ K) m q a b = go (any-there (suc j) K (m .1) q) (or-says (same q p) (among q K) a)
+    where
+      go : (T (among q K) → T (goes q) → T (someMarked marks marks (suc j) (length K))) → T (same q p) ⊎ T (among q K)
+          → T ((not (eqb (getD marks j 0) 0) && not (eqb (getD marks j 0) 0)) || someMarked marks marks (suc j) (length K))
+      go rest (inl s) =
+          let t = subst T (sym (ap not (m .0) ∙ not-not (goes p))) (subst (λ (r : Pattern). T (goes r)) (same-says q p .0 s) b) in
+          or-l (not (eqb (getD marks j 0) 0) && not (eqb (getD marks j 0) 0)) (someMarked marks marks (suc j) (length K)) (both (not (eqb (getD marks j 0) 0)) (not (eqb (getD marks j 0) 0)) .1 (t, t))
+      go rest (inr s) = or-r (not (eqb (getD marks j 0) 0) && not (eqb (getD marks j 0) 0)) (someMarked marks marks (suc j) (length K)) (rest s b)

@@ -1,6 +1,6 @@
 -- The code's loops, a turn at a time: counting under a prefix, looking for a marked class, and the next bit of the least header.
 use mathlib.Core.Path.{_≡_, refl, sym, ap, ap₂, _∙_, subst}
-use mathlib.Core.Bool.{Bool, true, false, not, _&&_, _||_, cond, false≢true}
+use mathlib.Core.Bool.{Bool, true, false, not, _&&_, _||_, cond}
 use mathlib.Core.List.{List, _∷_}
 use Prim.Native.Nat.{ℕ, zero, suc, _+_, _-_, _^_, _≤_, _<_}
 use native.Mathlib.Nat.{sub-zero, le-of-suc-le}
@@ -93,18 +93,6 @@ is-marked x h = rw (ne-eqb x 0 h)
 
 pub not-marked : (x : ℕ) → x ≡ 0 → false ≡ not (eqb x 0) && not (eqb x 0)
 not-marked x h = rw (eq-eqb x 0 h)
-
--- where no class is marked, none is marked and counted
-neither : (b s : Bool) {x y : Bool} → (false ≡ x → false ≡ y) → false ≡ (not b && not b) || x → false ≡ (not b && s) || y
-neither true s rest e = rest e
-neither false s rest e = absurd (false≢true e)
-
-pub none-marked : (w : ℕ) (P : Pattern) (marks cs vs : List ℕ) (j m : ℕ) → false ≡ someMarked marks marks j m → false ≡ someOf marks j (recount w P (patternsFrom cs vs j m))
-unfolding someMarked patternsFrom
-none-marked w P marks cs vs j zero e = refl
-none-marked w P marks cs vs j (suc m) e =
-    neither (eqb (getD marks j 0) 0) (not (eqb (shared w P (patternAt cs vs j) - sumIf (λ q. within q (patternAt cs vs j)) (recount w P (patternsFrom cs vs (suc j) m))) 0))
-    (none-marked w P marks cs vs (suc j) m) e
 
 pub some-rows : (marks cs vs ns : List ℕ) (j m : ℕ) → someMarked marks ns j m ≡ someOf marks j (rows cs vs ns j m)
 unfolding someMarked rows

@@ -107,7 +107,7 @@ fn some_marked(counts: &[u64], marks: &[u8], n: usize) -> bool
 }
 
 // Whether one of the first `n` classes is marked.
-fn any_marked(marks: &[u8], n: usize) -> bool
+pub fn any_marked(marks: &[u8], n: usize) -> bool
     requires { do ⌜ n ≤ (← ⟦marks.len()⟧) ⌝ }
     ensures { λ r. ⌜ r ≡ someMarked (now (marks .entry)) (now (marks .entry)) 0 n ⌝ }
 {
@@ -121,8 +121,8 @@ fn any_marked(marks: &[u8], n: usize) -> bool
     false
 }
 
-// Whether a marked class has a header under the prefix; where none is marked, nothing is counted.
-pub fn some_under(
+// Whether a marked class has a header under the prefix.
+fn some_under(
     cares: &[u32],
     values: &[u32],
     marks: &[u8],
@@ -140,11 +140,8 @@ pub fn some_under(
     requires enough { ⌜ Enough width prefix (patternsFrom (now cares) (now values) 0 n) ⌝ }
     ensures { λ r. ⌜ r ≡ someOf (now (marks .entry)) 0 (recount width prefix (patternsFrom (now (cares .entry)) (now (values .entry)) 0 n)) ⌝ }
 {
-    if any_marked(marks, n) {
-        count_under(cares, values, counts, n, width, prefix);
-        return some_marked(counts, marks, n);
-    }
-    false
+    count_under(cares, values, counts, n, width, prefix);
+    some_marked(counts, marks, n)
 }
 
 // Bit `k` alone.

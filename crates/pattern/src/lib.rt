@@ -37,15 +37,14 @@ fn filter_of(width: u8, care: u32, mask: u32, value: u32) -> Noted
 {
     let most = low_ones(width);
     if most < mask {
-        return Noted::WideMask;
+        Noted::WideMask
+    } else if most < value {
+        Noted::WideValue
+    } else if value & care == value {
+        Noted::Fine(Pattern { care, value })
+    } else {
+        Noted::ValueAtFree
     }
-    if most < value {
-        return Noted::WideValue;
-    }
-    if value & care == value {
-        return Noted::Fine(Pattern { care, value });
-    }
-    Noted::ValueAtFree
 }
 
 impl Pattern {

@@ -57,26 +57,19 @@ fn accepted(st: State) -> ReadAnswer
 pub fn read(file: &[u8]) -> ReadAnswer
     ensures { λ r. ⌜ r ≡ readOf (now (file .entry)) ⌝ }
 {
-    let mut st = START;
-    loop {
-        match steps::step_at(file, st) {
-            Step::Refused { number, place } => {
-                return ReadAnswer::Refused { number, place };
-            }
-            Step::Opened(next) => {
-                st = next;
-            }
-            Step::Begun(next) => {
-                st = next;
-            }
-            Step::Ruled(next, _) => {
-                st = next;
-            }
-            Step::Ended => {
-                return accepted(st);
-            }
-        }
-    }
+    let mut cares = [0u32; 256];
+    let mut values = [0u32; 256];
+    let mut actions = [0u8; 256];
+    let mut firsts = [0usize; 65];
+    let mut begins = [0usize; 65];
+    fill(
+        file,
+        &mut cares,
+        &mut values,
+        &mut actions,
+        &mut firsts,
+        &mut begins,
+    )
 }
 
 // An action as the working array holds it: the next node, 64 for drop, 65 for deliver.

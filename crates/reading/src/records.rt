@@ -136,11 +136,12 @@ fn rule_at(file: &[u8], at: usize, notation: Notation, doing: Doing, body: usize
     requires { ⌜ Whole (now file) at (Case.Rule notation doing) ⌝ }
     ensures { λ r. ⌜ r ≡ writtenAt (now (file .entry)) at notation doing body ⌝ }
 {
+    let action = action_at(file, at, doing);
     Record::Rule(Written {
         notation,
         mask: number_at(file, at + 1),
         value: number_at(file, at + 5),
-        action: action_at(file, at, doing),
+        action,
         body,
     })
 }

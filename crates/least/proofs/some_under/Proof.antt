@@ -1,13 +1,10 @@
--- `least::some_under` meets its contract: a marked class with a header counted, of the counts that stand there; none where no class is marked.
-use mathlib.Core.Path.{sym, ap, _∙_}
+-- `least::some_under` meets its contract: a marked class with a header counted, of the counts that stand there.
+use mathlib.Core.Path.{ap, _∙_}
 use borrow.Author.Needs.{needs}
 use Rattle.least.specs.Steps.{someOf}
-use Rattle.least.proofs.Turns.{some-rows, none-marked}
+use Rattle.least.proofs.Turns.{some-rows}
 use Rattle.least.proofs.some_under.Statement.{statement}
 use Rattle.least.proofs.some_under.Tie as tie
-
-any-marked-requires : tie.Need-any-marked-requires
-any-marked-requires c κs = search needs
 
 count-under-requires : tie.Need-count-under-requires
 count-under-requires c κs = search needs
@@ -20,23 +17,16 @@ same-length c = search needs
 
 returns : tie.Need-returns
 returns c =
-    let a = c .before .before .before .before .before .before .before .before .before .before .before .before .args in
+    let a = c .before .before .before .before .before .before .before .before .before .before .args in
     c .some-marked .ensures
     ∙ some-rows (a .marks .now) (a .cares .now) (a .values .now) (c .before .before .before .before .count-under .last .1 .1 .0) 0 (a .n)
     ∙ ap (someOf (a .marks .now) 0) (c .before .before .before .before .count-under .ensures)
-
-returns-2 : tie.Need-returns-2
-returns-2 c =
-    let a = c .before .before .before .before .before .before .args in
-    none-marked (a .width) (a .prefix) (a .marks .now) (a .cares .now) (a .values .now) 0 (a .n) (sym (c .if1 .left) ∙ c .before .any-marked .ensures)
 
 pub some-under-spec : {M : Type 1} → statement M
 some-under-spec =
     tie.close
     (tie.spec
-    any-marked-requires
     count-under-requires
     some-marked-requires
     same-length
-    returns
-    returns-2)
+    returns)

@@ -18,20 +18,8 @@ abbrev μ-loop : tie.MeasureT-loop
 loop-holds : tie.Need-loop-holds Inv-loop μ-loop
 loop-holds c = (omega arith, omega arith, λ k h l. absurd (omega arith))
 
-mul-care : tie.Need-mul-care Inv-loop μ-loop
-mul-care c = omega arith
-
-shared-slice-read-care : tie.Need-shared-slice-read-care Inv-loop μ-loop
-shared-slice-read-care c = omega arith
-
-mul-value : tie.Need-mul-value Inv-loop μ-loop
-mul-value c = omega arith
-
-shared-slice-read-value : tie.Need-shared-slice-read-value Inv-loop μ-loop
-shared-slice-read-value c = omega arith
-
 comes-before-requires : tie.Need-comes-before-requires Inv-loop μ-loop
-comes-before-requires c κs = search needs
+comes-before-requires c κs = (omega arith, omega arith)
 
 add-j : tie.Need-add-j Inv-loop μ-loop
 add-j c = omega arith
@@ -41,13 +29,13 @@ loop-less c = omega arith
 
 loop-again : tie.Need-loop-again Inv-loop μ-loop
 loop-again c =
-    let a = c .before .before .before .before .before .before .before .before .args in
-    let l = c .before .before .before .before .before .loop in
+    let a = c .before .before .before .before .before .before .args in
+    let l = c .before .before .before .loop in
     (omega arith, omega arith, passed-more (a .p) (a .cares .now) (a .values .now) (a .from) (l .j) (l .inv .2) (subst T (sym (c .if1 .taken) ∙ c .before .comes-before .ensures) tt))
 
 returns : tie.Need-returns Inv-loop μ-loop
 returns c =
-    let i = c .before .before .before .before .before .loop .inv in
+    let i = c .before .before .before .loop .inv in
     record { from = i .0; upto = i .1; passed = i .2; stop = λ h t. subst T (sym (c .before .comes-before .ensures) ∙ c .if1 .left) t }
 
 returns-2 : tie.Need-returns-2 Inv-loop μ-loop
@@ -62,10 +50,6 @@ place-spec =
     Inv-loop
     μ-loop
     loop-holds
-    mul-care
-    shared-slice-read-care
-    mul-value
-    shared-slice-read-value
     comes-before-requires
     add-j
     loop-less
