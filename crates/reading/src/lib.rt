@@ -53,7 +53,7 @@ fn accepted(st: State) -> ReadAnswer
     }
 }
 
-// Read: the whole file.
+// Read: the whole file, by the one loop that reads files. The arrays end with the call.
 pub fn read(file: &[u8]) -> ReadAnswer
     ensures { λ r. ⌜ r ≡ readOf (now (file .entry)) ⌝ }
 {
