@@ -54,6 +54,8 @@ static size_t encode(const struct draft *d, uint8_t *file) {
     return at;
 }
 
+static int unwritten; // 1 once a file could not be written
+
 static void write_file(const char *dir, const char *name, const struct draft *d) {
     uint8_t file[4096];
     char path[4096];
@@ -64,8 +66,10 @@ static void write_file(const char *dir, const char *name, const struct draft *d)
     for (size_t i = 0; (path[at] = name[i]); i++)
         at++;
     FILE *f = fopen(path, "wb");
-    if (!f || fwrite(file, 1, len, f) != len || fclose(f))
+    if (!f || fwrite(file, 1, len, f) != len || fclose(f)) {
         fprintf(stderr, "cannot write %s\n", path);
+        unwritten = 1;
+    }
 }
 
 // The judgement of a draft; plain_steps has its steps.
@@ -265,7 +269,7 @@ int main(int argc, char **argv) {
         int least_header = argv[3][0] == 'l';
         made(argv[1], least_header ? "climbed-least" : "climbed-sift",
              climb(least_header, number_of(argv[4]), number_of(argv[5])));
-        return 0;
+        return unwritten;
     }
     if (argc != 2)
         return 2;
@@ -277,5 +281,5 @@ int main(int argc, char **argv) {
     made(argv[1], "worst-sift", worst_sifting());
     made(argv[1], "worst-least", worst_least());
     made(argv[1], "worst-rounds", worst_rounds());
-    return 0;
+    return unwritten;
 }
