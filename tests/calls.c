@@ -6,8 +6,7 @@
 #include <string.h>
 
 enum { FIGURES = 6, LISTED = 1024, CYCLE = 64 };
-_Static_assert(LANECOMPASS_FIGURES == FIGURES && LANECOMPASS_CLASSES == LISTED && LANECOMPASS_CYCLE == CYCLE,
-               "the lengths of paper 01");
+_Static_assert(LANECOMPASS_FIGURES == 6 && LANECOMPASS_CLASSES == 1024 && LANECOMPASS_CYCLE == 64, "paper 01's lengths");
 
 // ---- the files
 
