@@ -89,8 +89,10 @@ int main(int argc, char **argv) {
     printf("%-16s %-6s %12s %12s %8s\n", "file", "call", "library us", "plain C us", "ratio");
     for (int i = 1; i < argc; i++) {
         FILE *f = fopen(argv[i], "rb");
-        if (!f)
+        if (!f) {
+            fprintf(stderr, "cannot read %s\n", argv[i]);
             return 2;
+        }
         length = fread(file, 1, sizeof file, f);
         fclose(f);
         const char *name = last_part(argv[i]);

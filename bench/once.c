@@ -17,8 +17,10 @@ int main(int argc, char **argv) {
     static uint32_t cares[CLASSES], values[CLASSES];
     static uint64_t sizes[CLASSES], out[FIGURES];
     FILE *f = argc == 2 ? fopen(argv[1], "rb") : NULL;
-    if (!f)
+    if (!f) {
+        fprintf(stderr, "once: one file that can be read is needed\n");
         return 2;
+    }
     size_t length = fread(file, 1, sizeof file, f);
     JUDGE(file, length, cares, CLASSES, values, CLASSES, sizes, CLASSES, cycle, CYCLE, out, FIGURES);
     return 0;

@@ -42,8 +42,10 @@ int main(int argc, char **argv) {
     size_t read = 0, judge = 0, walk = 0;
     for (int i = 1; i < argc; i++) {
         FILE *f = fopen(argv[i], "rb");
-        if (!f)
+        if (!f) {
+            fprintf(stderr, "cannot read %s\n", argv[i]);
             return 2;
+        }
         length = fread(file, 1, sizeof file, f);
         fclose(f);
         read = most(read, depth(call_read));
