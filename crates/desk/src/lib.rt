@@ -2,15 +2,15 @@
 // six figures to a lent list. include/lanecompass.h is the same for a reader of C.
 use judge::JudgeAnswer;
 use judge::Verdict;
-use judge::WalkAnswer;
 use reading::ReadAnswer;
+use walk::WalkAnswer;
 ghost use mathlib.Core.Path.{_≡_};
 ghost use mathlib.Core.List.{_++_};
 ghost use Prim.Native.Nat.{_≤_};
 ghost use lib.ListN.{length, drop};
 ghost use Rattle.reading.specs.File.{readOf};
 ghost use Rattle.judge.specs.Judging.{lentOf, judgeOf};
-ghost use Rattle.judge.specs.Walking.{walkOf};
+ghost use Rattle.walk.specs.Walking.{walkOf};
 ghost use Rattle.desk.specs.Sheets.{readSheet, judgeSheet, walkSheet, verdictNumber, verdictHeader, unlessShort, returned, laid, six};
 
 // Writes six figures, and hands the number on.
@@ -149,5 +149,5 @@ pub extern "C" fn lanecompass_walk(file: &[u8], header: u64, start: u8, out: &mu
     if out.len() < 6 {
         return 255;
     }
-    put_walk(out, judge::walk(file, header, start))
+    put_walk(out, walk::walk(file, header, start))
 }

@@ -3,9 +3,7 @@ use mathlib.Core.Path.{_≡_, sym, _∙_}
 use mathlib.Core.List.{List}
 use Prim.Native.Nat.{ℕ}
 use Rattle.judge.specs.declared.JudgeAnswer.{JudgeAnswer}
-use Rattle.judge.specs.declared.WalkAnswer.{WalkAnswer}
 use Rattle.judge.specs.Judging.{Lent, judgeOf}
-use Rattle.judge.specs.Walking.{walkOf}
 
 pub judge-answer : (file : List ℕ) (old : Lent) (r s : JudgeAnswer) → r ≡ judgeOf file old .answer → s ≡ judgeOf file old .answer → r ≡ s
 judge-answer file old r s a b = a ∙ sym b
@@ -21,6 +19,3 @@ judge-sizes file old r s a b = a ∙ sym b
 
 pub judge-cycle : (file : List ℕ) (old : Lent) (r s : List ℕ) → r ≡ judgeOf file old .lent .cycle → s ≡ judgeOf file old .lent .cycle → r ≡ s
 judge-cycle file old r s a b = a ∙ sym b
-
-pub walk-answer : (file : List ℕ) (header start : ℕ) (r s : WalkAnswer) → r ≡ walkOf file header start → s ≡ walkOf file header start → r ≡ s
-walk-answer file header start r s a b = a ∙ sym b

@@ -1,4 +1,4 @@
--- The laws behind Judge and Walk.
+-- The laws behind Judge.
 pub mod RowLaws
 pub mod First
 pub mod Alike
@@ -7,9 +7,5 @@ pub mod MarkLaws
 pub mod JudgeLaws
 pub mod FromFile
 pub mod Demand2
-pub mod WalkSteps
-pub mod WalkTables
-pub mod WalkMeans
 pub mod Determined
 pub mod Model
-pub mod PaperRows

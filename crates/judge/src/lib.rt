@@ -1,14 +1,12 @@
-// Judge and Walk: rows of next nodes, the least header that goes round, its cycle; and one header from one node.
+// Judge: rows of next nodes, the least header that goes round, and its cycle.
 mod deciding;
 mod rows;
-mod walking;
 
 use reading::ReadAnswer;
 ghost use mathlib.Core.Path.{_≡_};
 ghost use Prim.Native.Nat.{_≤_};
 ghost use Rattle.reading.specs.File.{parse};
 ghost use Rattle.judge.specs.Judging.{lentOf, shortBy, judgedOf, onParsed, judgeOf};
-ghost use Rattle.judge.specs.Walking.{walkOf};
 ghost use Rattle.judge.specs.Steps.{networkOf, Read};
 
 // The verdict: no header goes round, or the least that does.
@@ -30,14 +28,6 @@ pub enum JudgeAnswer {
         classes: usize,
         verdict: Verdict,
     },
-}
-
-// What Walk answers: the refusal's number and place, or the outcome with its node and hops.
-pub enum WalkAnswer {
-    Refused { number: u8, place: usize },
-    Delivered { node: u8, hops: u8 },
-    Dropped { node: u8, hops: u8 },
-    Circling { node: u8, hops: u8 },
 }
 
 // The judgement of an accepted file whose filters, and whose tables' places, stand in the working arrays.
@@ -136,13 +126,6 @@ fn judge_lent(
             cycle,
         ),
     }
-}
-
-// Walk: follows a header from a start node.
-pub fn walk(file: &[u8], header: u64, start: u8) -> WalkAnswer
-    ensures { λ r. ⌜ r ≡ walkOf (now (file .entry)) header start ⌝ }
-{
-    walking::walk(file, header, start)
 }
 
 // Whether one of the three lists is below 1,024 entries, or the byte list below 64.

@@ -1,6 +1,6 @@
 -- `desk::lanecompass_walk` meets its contract: 255 where the lent list is too short, else what Walk answered.
 use borrow.Author.Needs.{needs}
-use Rattle.judge.specs.Walking.{walkOf}
+use Rattle.walk.specs.Walking.{walkOf}
 use Rattle.desk.specs.Sheets.{walkSheet}
 use Rattle.desk.proofs.Laid.{unanswered, answered}
 use Rattle.desk.proofs.lanecompass_walk.Statement.{statement}

@@ -1,4 +1,4 @@
--- `judge::walking::walk_read` meets its contract: 14, then 15, then the walk.
+-- `walk::walk_read` meets its contract: 14, then 15, then the walk.
 use mathlib.Core.Path.{sym, ap, _∙_}
 use mathlib.Core.List.{[], _∷_}
 use lib.Pow.{pow-pos}
@@ -6,11 +6,11 @@ use borrow.Author.Needs.{needs}
 use native.Mathlib.Omega.{arith}
 use Rattle.pattern.specs.declared.Pattern.{Pattern}
 use Rattle.pattern.specs.Filters.{headerOf}
-use Rattle.judge.specs.Walking.{walkFrom}
-use Rattle.judge.specs.Steps.{actsIn}
-use Rattle.judge.proofs.WalkSteps.{by-14, by-15, by-walk}
-use Rattle.judge.proofs.walking.walk_read.Statement.{statement}
-use Rattle.judge.proofs.walking.walk_read.Tie as tie
+use Rattle.walk.specs.Walking.{walkFrom}
+use Rattle.walk.specs.Steps.{actsIn}
+use Rattle.walk.proofs.WalkSteps.{by-14, by-15, by-walk}
+use Rattle.walk.proofs.walk_read.Statement.{statement}
+use Rattle.walk.proofs.walk_read.Tie as tie
 
 low-ones-requires : tie.Need-low-ones-requires
 low-ones-requires c κs = search needs

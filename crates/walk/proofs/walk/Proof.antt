@@ -1,10 +1,10 @@
--- `judge::walking::walk` meets its contract: the file's own refusal, or the walk by the arrays that were filled.
+-- `walk::walk` meets its contract: the file's own refusal, or the walk by the arrays that were filled.
 use mathlib.Core.Path.{sym, _∙_}
 use borrow.Author.Needs.{needs}
 use Rattle.judge.proofs.FromFile.{told, told-refused}
-use Rattle.judge.proofs.WalkTables.{few-nodes, narrow-width, walk-refused, within-arrays, walk-is}
-use Rattle.judge.proofs.walking.walk.Statement.{statement}
-use Rattle.judge.proofs.walking.walk.Tie as tie
+use Rattle.walk.proofs.WalkTables.{few-nodes, narrow-width, walk-refused, within-arrays, walk-is}
+use Rattle.walk.proofs.walk.Statement.{statement}
+use Rattle.walk.proofs.walk.Tie as tie
 
 fill-requires : tie.Need-fill-requires
 fill-requires c κs = search needs

@@ -21,12 +21,12 @@ use Rattle.reading.proofs.Demand1.{rules-lead}
 use Rattle.rounds.specs.Rounds.{hops, OnCycle}
 use Rattle.rounds.proofs.Pigeon.{pigeon}
 use Rattle.rounds.proofs.Cycle.{hops-add, ended, live}
-use Rattle.judge.specs.declared.WalkAnswer.{WalkAnswer}
-use Rattle.judge.specs.declared.WalkAnswer.the-variants.{Refused, Delivered, Dropped, Circling}
 use Rattle.judge.specs.Forwarding.{nodesOf, actAt, hop, queryOf}
-use Rattle.judge.specs.Walking.{isIn, onAction, walkFrom, walkThrough, walkRead, walkOf}
-use Rattle.judge.proofs.WalkSteps.{by-walk}
-use Rattle.judge.proofs.WalkTables.{act-leads, every-table}
+use Rattle.walk.specs.declared.WalkAnswer.{WalkAnswer}
+use Rattle.walk.specs.declared.WalkAnswer.the-variants.{Refused, Delivered, Dropped, Circling}
+use Rattle.walk.specs.Walking.{isIn, onAction, walkFrom, walkThrough, walkRead, walkOf}
+use Rattle.walk.proofs.WalkSteps.{by-walk}
+use Rattle.walk.proofs.WalkTables.{act-leads, every-table}
 
 -- ---- what is claimed, of a query from a start
 

@@ -8,9 +8,9 @@ use lib.Dec.{ltb, eqb}
 use Rattle.reading.specs.declared.Action.{Action}
 use Rattle.reading.specs.declared.Action.the-variants.{Forward, Drop, Deliver}
 use Rattle.reading.specs.File.{Parsed, refused, accepted, parse}
-use Rattle.judge.specs.declared.WalkAnswer.{WalkAnswer}
-use Rattle.judge.specs.declared.WalkAnswer.the-variants.{Refused, Delivered, Dropped, Circling}
 use Rattle.judge.specs.Forwarding.{nodesOf, actAt, queryOf}
+use Rattle.walk.specs.declared.WalkAnswer.{WalkAnswer}
+use Rattle.walk.specs.declared.WalkAnswer.the-variants.{Refused, Delivered, Dropped, Circling}
 
 unfoldable pub isIn : ℕ → List ℕ → Bool
 isIn v [] = false

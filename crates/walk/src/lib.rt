@@ -1,13 +1,23 @@
 // Walk: one header from one node through the working arrays.
-use crate::WalkAnswer;
 use pattern::Pattern;
 use reading::ReadAnswer;
 ghost use mathlib.Core.Path.{_≡_};
 ghost use mathlib.Core.List.{[], _∷_};
 ghost use Prim.Native.Nat.{_≤_, _<_};
 ghost use Rattle.pattern.specs.Filters.{headerOf};
-ghost use Rattle.judge.specs.Walking.{walkFrom, walkBy, walkOf};
-ghost use Rattle.judge.specs.Steps.{actsIn, Within};
+ghost use Rattle.walk.specs.Walking.{walkFrom, walkBy, walkOf};
+ghost use Rattle.walk.specs.Steps.{actsIn, Within};
+
+// What Walk answers: the refusal's number and place, or the outcome with its node and hops.
+pub enum WalkAnswer {
+    Refused { number: u8, place: usize },
+    Delivered { node: u8, hops: u8 },
+    Dropped { node: u8, hops: u8 },
+    Circling { node: u8, hops: u8 },
+}
+
+// The action byte that delivers. A byte below the node count forwards, and any other drops.
+const DELIVER: u8 = 65;
 
 // Follows the query from the start: over the hops, and inside over the rules of the node's table. `seen` has a 1 at each node entered.
 fn follow(
@@ -45,7 +55,7 @@ fn follow(
             };
             if query.within(p) {
                 let next = actions[i];
-                if next == 65 {
+                if next == DELIVER {
                     break 'walk WalkAnswer::Delivered { node, hops };
                 }
                 if nodes <= next {

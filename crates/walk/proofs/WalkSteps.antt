@@ -18,9 +18,9 @@ use Rattle.reading.specs.declared.Action.the-variants.{Forward, Drop, Deliver}
 use Rattle.reading.specs.Network.{act}
 use Rattle.classes.specs.Classes.{patternAt}
 use Rattle.rounds.proofs.Cycle.{fuel}
-use Rattle.judge.specs.declared.WalkAnswer.the-variants.{Refused, Delivered, Dropped, Circling}
-use Rattle.judge.specs.Walking.{isIn, onAction, walkFrom, walkBy}
-use Rattle.judge.specs.Steps.{decoded, rulesAt, actsIn}
+use Rattle.walk.specs.declared.WalkAnswer.the-variants.{Refused, Delivered, Dropped, Circling}
+use Rattle.walk.specs.Walking.{isIn, onAction, walkFrom, walkBy}
+use Rattle.walk.specs.Steps.{decoded, rulesAt, actsIn}
 
 -- ---- an action byte
 

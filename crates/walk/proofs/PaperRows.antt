@@ -8,14 +8,14 @@ use Rattle.reading.specs.Network.{act}
 use Rattle.reading.specs.File.{stepOf, onStep, run, parse}
 use Rattle.classes.specs.Classes.{Entry, entry, tallyAll}
 use Rattle.rounds.specs.Rounds.{backIn, returnsTo, lowFrom, lowest, cycleFrom, cycleOf, cycleFor}
 use Rattle.judge.specs.declared.Verdict.the-variants.{Free, Loop}
 use Rattle.judge.specs.declared.JudgeAnswer.the-variants.{Refused, Judged}
-use Rattle.judge.specs.declared.WalkAnswer.{WalkAnswer}
-use Rattle.judge.specs.declared.WalkAnswer.the-variants as walk-says
 use Rattle.judge.specs.Forwarding.{hop}
 use Rattle.judge.specs.Verdicts.{loops, firstFrom, verdictOf, cycleIn}
 use Rattle.judge.specs.Judging.{Lent, Judgement, judgement, lentOf, written, judgedOf, judgeOf}
-use Rattle.judge.specs.Walking.{isIn, onAction, walkFrom, walkBy, walkOf}
+use Rattle.walk.specs.declared.WalkAnswer.{WalkAnswer}
+use Rattle.walk.specs.declared.WalkAnswer.the-variants as walk-says
+use Rattle.walk.specs.Walking.{isIn, onAction, walkFrom, walkBy, walkOf}
 
 -- ---- questions and answers
 

@@ -1,4 +1,4 @@
--- `judge::walking::follow` meets its contract. Over the hops: the walk from here is the walk, and seen marks the nodes met.
+-- `walk::follow` meets its contract. Over the hops: the walk from here is the walk, and seen marks the nodes met.
 -- Over the rules: the rules from i on decide what the node does.
 use mathlib.Core.Path.{_≡_, refl, sym, _∙_}
 use Prim.Native.Nat.{_≤_, _<_, _-_, _+_}
@@ -6,10 +6,10 @@ use lib.ListN.{getD}
 use borrow.Author.Needs.{needs}
 use native.Mathlib.Omega.{arith}
 use Rattle.reading.specs.Network.{act}
-use Rattle.judge.specs.Steps.{actsIn, rulesAt}
-use Rattle.judge.proofs.WalkSteps.{Here, acts-at, here-first, here-next, act-hit, act-miss, act-none, ends-deliver, ends-drop, ends-circling, ends-none, ends-late}
-use Rattle.judge.proofs.walking.follow.Statement.{statement}
-use Rattle.judge.proofs.walking.follow.Tie as tie
+use Rattle.walk.specs.Steps.{actsIn, rulesAt}
+use Rattle.walk.proofs.WalkSteps.{Here, acts-at, here-first, here-next, act-hit, act-miss, act-none, ends-deliver, ends-drop, ends-circling, ends-none, ends-late}
+use Rattle.walk.proofs.follow.Statement.{statement}
+use Rattle.walk.proofs.follow.Tie as tie
 
 abbrev Inv-loop : tie.InvT-loop
 Inv-loop cares values actions firsts nodes query start seen₀ node₀ hops₀ v i₀ end seen node hops i =

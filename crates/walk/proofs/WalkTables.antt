@@ -7,8 +7,8 @@ use native.Mathlib.Nat.{sub-zero}
 use native.Mathlib.Numerals.{add-one}
 use native.Mathlib.Omega.{arith}
 use lib.Dec.{ltb}
-use lib.ListN.{length, getD, take, drop, replicate, length-append, length-drop, length-map, List·getD-append}
-use lib.Seq.{drop-append-le}
+use lib.ListN.{length, getD, take, drop, replicate, length-append, length-map, List·getD-append, List·getD-map}
+use lib.Seq.{drop-cons}
 use borrow.Author.Tests.{ltb-true}
 use Rattle.pattern.specs.declared.Pattern.{Pattern}
 use Rattle.pattern.specs.Filters.{within, headerOf}
@@ -21,14 +21,15 @@ use Rattle.reading.specs.Code.{leadsIn}
 use Rattle.reading.specs.Arrays.{caresOf, valuesOf, actionsOf, firstsOf, codeOf, filled}
 use Rattle.reading.proofs.Networks.{Every, starts}
 use Rattle.reading.proofs.Demand1.{rules-lead, Bounded, accepted-is-bounded, ArraysAgree, arrays-agree, table-in-arrays}
-use Rattle.least.proofs.LeastHeader.{head-at, tail-at}
-use Rattle.judge.specs.declared.WalkAnswer.{WalkAnswer}
-use Rattle.judge.specs.declared.WalkAnswer.the-variants.{Refused, Circling}
+use Rattle.classes.specs.Classes.{patternAt}
 use Rattle.judge.specs.Forwarding.{actAt}
-use Rattle.judge.specs.Walking.{isIn, onAction, walkFrom, walkBy, walkRead, walkOf}
-use Rattle.judge.specs.Steps.{networkOf, decoded, rulesAt, actsIn, Within}
+use Rattle.judge.specs.Steps.{networkOf}
 use Rattle.judge.proofs.FromFile.{Told}
-use Rattle.judge.proofs.WalkSteps.{decoded-deliver, decoded-drop, decoded-forward}
+use Rattle.walk.specs.declared.WalkAnswer.{WalkAnswer}
+use Rattle.walk.specs.declared.WalkAnswer.the-variants.{Refused, Circling}
+use Rattle.walk.specs.Walking.{isIn, onAction, walkFrom, walkBy, walkRead, walkOf}
+use Rattle.walk.specs.Steps.{decoded, rulesAt, actsIn, Within}
+use Rattle.walk.proofs.WalkSteps.{decoded-deliver, decoded-drop, decoded-forward}
 
 -- a rule whose action leads to a node below n
 abbrev Leads : ℕ → Rule → Type 0
@@ -41,7 +42,7 @@ decoded-code n (Forward next) h l = let lt : next < n = ltb-true next n l in dec
 decoded-code n Drop h l = decoded-drop n 64 (λ e. omega arith) h
 decoded-code n Deliver h l = decoded-deliver n 65 refl
 
--- ---- rules that stand in the arrays from place j on
+-- ---- rules that stand in the arrays
 
 abbrev careIn : Rule → ℕ
 careIn r = r .pattern .care
@@ -52,39 +53,22 @@ valueIn r = r .pattern .value
 abbrev codeIn : Rule → ℕ
 codeIn r = codeOf (r .action)
 
-module _ (cs vs ks r s u : List ℕ) (n : ℕ) (few : n ≤ 64) where
-  rules-stand : (K : List Rule) (j k : ℕ) → drop j cs ≡ map careIn K ++ r → drop j vs ≡ map valueIn K ++ s → drop j ks ≡ map codeIn K ++ u
-      → Every (Leads n) K → k ≤ length K → rulesAt cs vs ks n j k ≡ take k K
-  unfolding rulesAt
-  rules-stand K j zero a b c e h = refl
-  rules-stand [] j (suc k) a b c e h = absurd (omega arith)
-  rules-stand (x ∷ K) j (suc k) a b c e h =
-      ap₂ (λ (y : Rule) (L : List Rule). y ∷ L)
-      (rule (head-at cs (map careIn K ++ r) (careIn x) j a) (head-at vs (map valueIn K ++ s) (valueIn x) j b)
-      (ap (decoded n) (head-at ks (map codeIn K ++ u) (codeIn x) j c) ∙ decoded-code n (x .action) few (e .0)))
-      (rules-stand K (suc j) k (tail-at cs (map careIn K ++ r) (careIn x) j a) (tail-at vs (map valueIn K ++ s) (valueIn x) j b)
-      (tail-at ks (map codeIn K ++ u) (codeIn x) j c) (e .1) (omega arith))
-    where
-      rule : {p q : ℕ} {w : Action} → p ≡ careIn x → q ≡ valueIn x → w ≡ x .action
-          → (let y : Rule = record { pattern = record { care = p; value = q }; action = w } in y) ≡ x
-      rule f g h = λ i. record { pattern = record { care = f i; value = g i }; action = h i }
+-- what stands past the last rule
+abbrev blank : Rule
+blank = record { pattern = record { care = 0; value = 0 }; action = Forward 0 }
 
-map-drop : (g : Rule → ℕ) (j : ℕ) (K : List Rule) → drop j (map g K) ≡ map g (drop j K)
-map-drop g zero K = refl
-map-drop g (suc j) [] = refl
-map-drop g (suc j) (x ∷ K) = map-drop g j K
+-- an array that begins with a figure of each rule has at place j that of rule j
+figure-at : (g : Rule → ℕ) (R : List Rule) (array noted old : List ℕ) → array ≡ filled noted old → noted ≡ map g R → (j : ℕ) → j < length R
+    → getD array j (g blank) ≡ g (getD R j blank)
+figure-at g R array noted old e f j h =
+    ap (λ (l : List ℕ). getD l j (g blank)) (e ∙ ap (λ (l : List ℕ). l ++ drop (length noted) old) f)
+    ∙ List·getD-append (map g R) (drop (length noted) old) (g blank) j (omega (arith, length-map R g, h))
+    ∙ List·getD-map g R j blank
 
-every-drop : (P : Rule → Type 0) (j : ℕ) (K : List Rule) → Every P K → Every P (drop j K)
-every-drop P zero K e = e
-every-drop P (suc j) [] e = e
-every-drop P (suc j) (x ∷ K) e = every-drop P j K (e .1)
-
--- a list that begins with a figure of each rule, from place j on
-figures-from : (g : Rule → ℕ) (R : List Rule) (xs r : List ℕ) (j : ℕ) → xs ≡ map g R ++ r → j ≤ length R → drop j xs ≡ map g (drop j R) ++ r
-figures-from g R xs r j e h =
-    ap (drop j) e
-    ∙ drop-append-le j (map g R) r (omega (arith, length-map R g, h))
-    ∙ ap (λ (l : List ℕ). l ++ r) (map-drop g j R)
+every-at : (P : Rule → Type 0) (R : List Rule) (j : ℕ) → Every P R → j < length R → P (getD R j blank)
+every-at P [] j e h = absurd (omega arith)
+every-at P (r ∷ R) zero e h = e .0
+every-at P (r ∷ R) (suc j) e h = every-at P R j (e .1) (omega arith)
 
 -- ---- the numbers of the tables' first rules
 
@@ -181,43 +165,43 @@ module _ (s : List ℕ) (w n r : ℕ) (t : Told s w n r) (cs vs ks fs : List ℕ
   pub within-arrays : Within fs n
   within-arrays v h = omega (arith, last-le (v + 1) (omega arith), bounds .most-rules)
 
-  -- each array begins with its figure of each rule
-  caring : cs ≡ map careIn (rulesOf (networkOf s)) ++ drop (length (caresOf s)) (replicate 256 0)
-  caring =
-      cares
-      ∙ ap (λ (l : List ℕ). l ++ drop (length (caresOf s)) (replicate 256 0))
-      (arrays .cares ∙ map-map (λ (p : Pattern). p .care) (λ (x : Rule). x .pattern) (rulesOf (networkOf s)))
-
-  valued : vs ≡ map valueIn (rulesOf (networkOf s)) ++ drop (length (valuesOf s)) (replicate 256 0)
-  valued =
-      values
-      ∙ ap (λ (l : List ℕ). l ++ drop (length (valuesOf s)) (replicate 256 0))
-      (arrays .values ∙ map-map (λ (p : Pattern). p .value) (λ (x : Rule). x .pattern) (rulesOf (networkOf s)))
-
-  coded : ks ≡ map codeIn (rulesOf (networkOf s)) ++ drop (length (actionsOf s)) (replicate 256 0)
-  coded = actions ∙ ap (λ (l : List ℕ). l ++ drop (length (actionsOf s)) (replicate 256 0)) (arrays .actions)
-
   all-lead : Every (Leads n) (rulesOf (networkOf s))
   all-lead = subst (λ (m : ℕ). Every (Leads m) (rulesOf (networkOf s))) (t .nodes) (rules-lead s (networkOf s) (t .parsed))
 
+  rule-at : (j : ℕ) → j < length (rulesOf (networkOf s))
+      → (let x : Rule = record { pattern = patternAt cs vs j; action = decoded n (getD ks j 0) } in x) ≡ getD (rulesOf (networkOf s)) j blank
+  rule-at j h = λ i. record { pattern = record { care = care i; value = value i }; action = action i }
+    where
+      R : List Rule
+      R = rulesOf (networkOf s)
+
+      care : getD cs j 0 ≡ careIn (getD R j blank)
+      care = figure-at careIn R cs (caresOf s) (replicate 256 0) cares (arrays .cares ∙ map-map (λ (p : Pattern). p .care) (λ (x : Rule). x .pattern) R) j h
+
+      value : getD vs j 0 ≡ valueIn (getD R j blank)
+      value = figure-at valueIn R vs (valuesOf s) (replicate 256 0) values (arrays .values ∙ map-map (λ (p : Pattern). p .value) (λ (x : Rule). x .pattern) R) j h
+
+      action : decoded n (getD ks j 0) ≡ getD R j blank .action
+      action =
+          ap (decoded n) (figure-at codeIn R ks (actionsOf s) (replicate 256 0) actions (arrays .actions) j h)
+          ∙ decoded-code n (getD R j blank .action) few (every-at (Leads n) R j all-lead h)
+
+  rules-stand : (j k : ℕ) → j + k ≤ length (rulesOf (networkOf s)) → rulesAt cs vs ks n j k ≡ take k (drop j (rulesOf (networkOf s)))
+  unfolding rulesAt
+  rules-stand j zero h = refl
+  rules-stand j (suc k) h =
+      ap₂ (λ (x : Rule) (L : List Rule). x ∷ L) (rule-at j (omega arith)) (rules-stand (suc j) k (omega arith))
+      ∙ sym (ap (take (suc k)) (drop-cons (rulesOf (networkOf s)) j blank (omega arith)))
+
   table-at : (v : ℕ) → v < n → rulesAt cs vs ks n (getD fs v 0) (getD fs (v + 1) 0 - getD fs v 0) ≡ getD (networkOf s .tables) v []
   table-at v h =
-      rules-stand cs vs ks (drop (length (caresOf s)) (replicate 256 0)) (drop (length (valuesOf s)) (replicate 256 0)) (drop (length (actionsOf s)) (replicate 256 0)) n few
-      (drop (getD fs v 0) R) (getD fs v 0) (getD fs (v + 1) 0 - getD fs v 0)
-      (figures-from careIn R cs (drop (length (caresOf s)) (replicate 256 0)) (getD fs v 0) caring here)
-      (figures-from valueIn R vs (drop (length (valuesOf s)) (replicate 256 0)) (getD fs v 0) valued here)
-      (figures-from codeIn R ks (drop (length (actionsOf s)) (replicate 256 0)) (getD fs v 0) coded here)
-      (every-drop (Leads n) (getD fs v 0) R all-lead)
-      (omega (arith, length-drop (getD fs v 0) R, last-le (v + 1) (omega arith)))
+      rules-stand (getD fs v 0) (getD fs (v + 1) 0 - getD fs v 0) (omega (arith, last-le v (omega arith), last-le (v + 1) (omega arith)))
       ∙ ap₂ (λ (a b : ℕ). take (b - a) (drop a R)) (first-at v (omega arith)) (first-at (v + 1) (omega arith) ∙ ap (λ (i : ℕ). getD (starts 0 (networkOf s .tables)) i 0) (add-one v))
       ∙ ap (λ (a : ℕ). take (getD (starts 0 (networkOf s .tables)) (suc v) 0 - getD (starts 0 (networkOf s .tables)) v 0) (drop a R)) (sym (sub-zero (getD (starts 0 (networkOf s .tables)) v 0)))
       ∙ table-in-arrays (networkOf s) v (omega (arith, t .nodes)) .rules
     where
       R : List Rule
       R = rulesOf (networkOf s)
-
-      here : getD fs v 0 ≤ length (rulesOf (networkOf s))
-      here = last-le v (omega arith)
 
   acts-agree : (query : Pattern) (v : ℕ) → v < n → actsIn cs vs ks fs n query v ≡ actAt (networkOf s) query v
   unfolding actsIn
