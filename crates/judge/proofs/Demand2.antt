@@ -1,29 +1,29 @@
 -- Demand 2. Judge says free exactly when no header below 2^w goes round at any node with any number of hops. Otherwise the header said
 -- goes round and no smaller one does, and the cycle is its cycle: it starts at the lowest numbered node on any cycle of that header,
--- follows the hops, has each node once, and returns to the first.
+-- follows the hops, has each node once, and returns to the first. Where Judge says free the 64 bytes are 255.
 use mathlib.Core.Path.{_≡_, refl, sym, _∙_, ap, subst}
-use mathlib.Core.Bool.{Bool, true, false, cond}
 use mathlib.Core.List.{List, []}
 use Prim.Native.Nat.{ℕ, zero, suc, _^_, _≤_, _<_, zero-le}
 use native.Mathlib.Omega.{arith}
-use lib.Dec.{T, leb}
+use lib.Dec.{T}
 use lib.ListN.{length, getD}
 use borrow.Author.Tests.{le-ltb}
 use Rattle.pattern.specs.declared.Pattern.{Pattern}
-use Rattle.reading.specs.Network.{Network, rulesOf}
-use Rattle.reading.specs.File.{Parsed, refused, accepted, parse}
+use Rattle.reading.specs.Network.{Network}
+use Rattle.reading.specs.File.{accepted, parse}
 use Rattle.rounds.specs.declared.Lowest.{Lowest}
 use Rattle.rounds.specs.declared.Lowest.the-variants.{Node, Nowhere}
 use Rattle.rounds.specs.Rounds.{hops, OnCycle, GoesRound, lowest, cycleFrom, cycleOf, cycleFor, cycleBytes}
 use Rattle.rounds.proofs.Low.{Means, lowest-means, node-means}
-use Rattle.rounds.proofs.CycleList.{cycle-at, cycle-closed, cycle-once}
+use Rattle.rounds.proofs.CycleList.{cycle-at, cycle-len, cycle-closed, cycle-once}
 use Rattle.judge.specs.declared.Verdict.{Verdict}
 use Rattle.judge.specs.declared.Verdict.the-variants.{Free, Loop}
-use Rattle.judge.specs.declared.JudgeAnswer.the-variants.{Refused, Judged}
+use Rattle.judge.specs.declared.JudgeAnswer.the-variants.{Judged}
 use Rattle.judge.specs.Forwarding.{nodesOf, hop, queryOf, HeaderGoesRound}
 use Rattle.judge.specs.Verdicts.{isNode, loops, verdictOf, cycleIn}
-use Rattle.judge.specs.Judging.{Lent, Judgement, judgement, tooShort, written, classesOf, judgedOf, onParsed, judgeOf}
+use Rattle.judge.specs.Judging.{Lent, Judgement, judgeOf}
 use Rattle.judge.proofs.First.{First, first-says}
+use Rattle.judge.proofs.JudgeLaws.{fine, judged-is}
 
 -- ---- what is claimed
 
@@ -44,6 +44,7 @@ pub record IsCycle (f : ℕ → ℕ) (n : ℕ) (nodes : List ℕ) : Type 0 where
   pub on-cycle : OnCycle f first
   pub lowest-one : (v : ℕ) → v < first → OnCycle f v → ⊥
   pub some : 1 ≤ length nodes
+  pub few : length nodes ≤ n
   pub follows : (i : ℕ) → i < length nodes → getD nodes i 0 ≡ hops f i first
   pub once : (i j : ℕ) → i < j → j < length nodes → getD nodes i 0 ≡ getD nodes j 0 → ⊥
   pub comes-back : hops f (length nodes) first ≡ first
@@ -90,6 +91,7 @@ module _ (net : Network) (query : Pattern) where
             on-cycle = m .1;
             lowest-one = m .2;
             some = some-node (nodesOf net) v (m .0);
+            few = cycle-len (hop net query) (nodesOf net) v;
             follows = cycle-at (hop net query) (nodesOf net) v;
             once = cycle-once (hop net query) (nodesOf net) v back;
             comes-back = cycle-closed (hop net query) (nodesOf net) v back;
@@ -129,56 +131,31 @@ module _ (net : Network) where
 
 -- ---- Judge
 
--- A file has one network.
-same-net : (file : List ℕ) (a b : Network) → parse file ≡ accepted a → parse file ≡ accepted b → a ≡ b
-same-net file a b p q = cc
+-- A judged file has its network's verdict, and the bytes its cycle.
+module _ (file : List ℕ) (old : Lent) (w n r c : ℕ) (v : Verdict) (net : Network) (e : judgeOf file old .answer ≡ Judged w n r c v) (read : parse file ≡ accepted net) where
+  is-fine : judgeOf file old ≡ fine net old
+  is-fine = judged-is file old w n r c v net e read
 
--- The judgement is of an accepted file, and has its network's verdict and cycle.
-pub record GivenOf (file : List ℕ) (old : Lent) (v : Verdict) (j : Judgement) : Type 0 where
-  pub net : Network
-  pub read : parse file ≡ accepted net
-  pub verdict : verdictOf net ≡ v
-  pub bytes : j .lent .cycle ≡ cycleBytes (cycleIn net v) (old .cycle)
+  verdict-is : verdictOf net ≡ v
+  verdict-is = let same : fine net old .answer ≡ Judged w n r c v = sym (ap (λ (j : Judgement). j .answer) is-fine) ∙ e in cc
 
-module _ (file : List ℕ) (old : Lent) (w n r c : ℕ) (v : Verdict) where
-  fine : (net : Network) (b : Bool) → parse file ≡ accepted net
-      → (let j : Judgement = cond b
-      (judgement (Judged (net .width) (nodesOf net) (length (rulesOf net)) (length (classesOf net)) (verdictOf net)) (written (classesOf net) (cycleIn net (verdictOf net)) old))
-      (judgement (Refused 12 0) (written [] [] old)) in j .answer ≡ Judged w n r c v → GivenOf file old v j)
-  fine net true p e =
-      let is : verdictOf net ≡ v = cc in
-      record { net = net; read = p; verdict = is; bytes = ap (λ (x : Verdict). cycleBytes (cycleIn net x) (old .cycle)) is }
-  fine net false p e = let z : _≡_ {A = ℕ} 0 1 = cc in absurd (omega arith)
+  bytes-are : judgeOf file old .lent .cycle ≡ cycleBytes (cycleIn net v) (old .cycle)
+  bytes-are = ap (λ (j : Judgement). j .lent .cycle) is-fine ∙ ap (λ (u : Verdict). cycleBytes (cycleIn net u) (old .cycle)) verdict-is
 
-  from : (b : Bool) (p : Parsed) → parse file ≡ p
-      → (let j : Judgement = cond b (judgement (Refused 13 0) old) (onParsed p old) in j .answer ≡ Judged w n r c v → GivenOf file old v j)
-  unfolding judgedOf
-  from true p q e = let z : _≡_ {A = ℕ} 0 1 = cc in absurd (omega arith)
-  from false (refused a b) q e = let z : _≡_ {A = ℕ} 0 1 = cc in absurd (omega arith)
-  from false (accepted net) q e = fine net (leb (length (classesOf net)) 512) q e
-
-  pub judged : judgeOf file old .answer ≡ Judged w n r c v → GivenOf file old v (judgeOf file old)
-  unfolding judgeOf
-  judged e = from (tooShort old) (parse file) refl e
-
--- Judge says free exactly when no header goes round.
+-- Judge says free exactly when no header goes round, and then the 64 bytes are 255.
 pub demand2-free : (file : List ℕ) (old : Lent) (w n r c : ℕ) (net : Network) → judgeOf file old .answer ≡ Judged w n r c Free
-    → parse file ≡ accepted net → NoneGoesRound net
-demand2-free file old w n r c net e p =
-    let g = judged file old w n r c Free e in free-says net (subst (λ (u : Network). verdictOf u ≡ Free) (same-net file (g .net) net (g .read) p) (g .verdict))
+    → parse file ≡ accepted net → NoneGoesRound net × (judgeOf file old .lent .cycle ≡ cycleBytes [] (old .cycle))
+unfolding cycleIn
+demand2-free file old w n r c net e p = (free-says net (verdict-is file old w n r c Free net e p), bytes-are file old w n r c Free net e p)
 
 pub demand2-only-free : (file : List ℕ) (old : Lent) (w n r c : ℕ) (v : Verdict) (net : Network) → judgeOf file old .answer ≡ Judged w n r c v
     → parse file ≡ accepted net → NoneGoesRound net → v ≡ Free
-demand2-only-free file old w n r c v net e p none =
-    let g = judged file old w n r c v e in
-    sym (subst (λ (u : Network). verdictOf u ≡ v) (same-net file (g .net) net (g .read) p) (g .verdict)) ∙ says-free net none
+demand2-only-free file old w n r c v net e p none = sym (verdict-is file old w n r c v net e p) ∙ says-free net none
 
 -- Otherwise it says the least header that goes round, and writes its cycle.
 pub demand2-loop : (file : List ℕ) (old : Lent) (w n r c h : ℕ) (net : Network) → judgeOf file old .answer ≡ Judged w n r c (Loop h)
     → parse file ≡ accepted net
     → LeastRound net h × ((nodes : List ℕ) × IsCycle (hop net (queryOf net h)) (nodesOf net) nodes × (judgeOf file old .lent .cycle ≡ cycleBytes nodes (old .cycle)))
 demand2-loop file old w n r c h net e p =
-    let g = judged file old w n r c (Loop h) e in
-    let s = same-net file (g .net) net (g .read) p in
-    let v = subst (λ (u : Network). verdictOf u ≡ Loop h) s (g .verdict) in
-    (loop-says net h v, (cycleIn net (Loop h), cycle-says net h v, g .bytes ∙ ap (λ (u : Network). cycleBytes (cycleIn u (Loop h)) (old .cycle)) s))
+    let v = verdict-is file old w n r c (Loop h) net e p in
+    (loop-says net h v, (cycleIn net (Loop h), cycle-says net h v, bytes-are file old w n r c (Loop h) net e p))

@@ -1,21 +1,30 @@
--- Two results that a contract of this crate allows are equal: the answers, and each lent list at exit.
-use mathlib.Core.Path.{_≡_, sym, _∙_}
+-- Two results that Judge's contract allows are equal, and none depends on bytes past the first 4,096.
+use mathlib.Core.Path.{_≡_, sym, _∙_, ap}
+use mathlib.Core.Bool.{cond}
 use mathlib.Core.List.{List}
 use Prim.Native.Nat.{ℕ}
+use lib.ListN.{take}
+use Rattle.reading.specs.File.{Parsed}
+use Rattle.reading.proofs.Prefix.{parse-prefix}
 use Rattle.judge.specs.declared.JudgeAnswer.{JudgeAnswer}
-use Rattle.judge.specs.Judging.{Lent, judgeOf}
+use Rattle.judge.specs.declared.JudgeAnswer.the-variants.{Refused}
+use Rattle.judge.specs.Judging.{Lent, lentOf, Judgement, judgement, tooShort, onParsed, judgeOf}
 
-pub judge-answer : (file : List ℕ) (old : Lent) (r s : JudgeAnswer) → r ≡ judgeOf file old .answer → s ≡ judgeOf file old .answer → r ≡ s
-judge-answer file old r s a b = a ∙ sym b
+-- What the contract says of the answer, and of what the lent lists hold at exit.
+pub record Allowed (file : List ℕ) (old : Lent) (j : Judgement) : Type 0 where
+  pub answer : j .answer ≡ judgeOf file old .answer
+  pub cares : j .lent .cares ≡ judgeOf file old .lent .cares
+  pub values : j .lent .values ≡ judgeOf file old .lent .values
+  pub sizes : j .lent .sizes ≡ judgeOf file old .lent .sizes
+  pub cycle : j .lent .cycle ≡ judgeOf file old .lent .cycle
 
-pub judge-cares : (file : List ℕ) (old : Lent) (r s : List ℕ) → r ≡ judgeOf file old .lent .cares → s ≡ judgeOf file old .lent .cares → r ≡ s
-judge-cares file old r s a b = a ∙ sym b
+module _ (file : List ℕ) (old : Lent) where
+  allowed-is : (j : Judgement) → Allowed file old j → j ≡ judgeOf file old
+  allowed-is j a = λ i. judgement (a .answer i) (lentOf (a .cares i) (a .values i) (a .sizes i) (a .cycle i))
 
-pub judge-values : (file : List ℕ) (old : Lent) (r s : List ℕ) → r ≡ judgeOf file old .lent .values → s ≡ judgeOf file old .lent .values → r ≡ s
-judge-values file old r s a b = a ∙ sym b
+  pub judge-is-determined : (j k : Judgement) → Allowed file old j → Allowed file old k → j ≡ k
+  judge-is-determined j k a b = allowed-is j a ∙ sym (allowed-is k b)
 
-pub judge-sizes : (file : List ℕ) (old : Lent) (r s : List ℕ) → r ≡ judgeOf file old .lent .sizes → s ≡ judgeOf file old .lent .sizes → r ≡ s
-judge-sizes file old r s a b = a ∙ sym b
-
-pub judge-cycle : (file : List ℕ) (old : Lent) (r s : List ℕ) → r ≡ judgeOf file old .lent .cycle → s ≡ judgeOf file old .lent .cycle → r ≡ s
-judge-cycle file old r s a b = a ∙ sym b
+  pub judge-first-4096 : judgeOf (take 4096 file) old ≡ judgeOf file old
+  unfolding judgeOf
+  judge-first-4096 = ap (λ (p : Parsed). cond (tooShort old) (judgement (Refused 13 0) old) (onParsed p old)) (parse-prefix file)

@@ -10,7 +10,7 @@ use lib.Pow.{pow-pos}
 use borrow.Author.Tests.{leb-true, ltb-false}
 use Rattle.pattern.specs.declared.Pattern.{Pattern}
 use Rattle.reading.specs.Network.{Network, rulesOf, filters}
-use Rattle.reading.specs.File.{parse}
+use Rattle.reading.specs.File.{Parsed, accepted, parse}
 use Rattle.classes.specs.Classes.{Entry, classList, listed, laid, careAt, valueAt, AllWellFormed}
 use Rattle.classes.specs.Steps.{sumIf}
 use Rattle.classes.proofs.Tally.{list-total}
@@ -18,7 +18,7 @@ use Rattle.judge.specs.declared.Verdict.{Verdict}
 use Rattle.judge.specs.declared.JudgeAnswer.the-variants.{Refused, Judged}
 use Rattle.judge.specs.Forwarding.{nodesOf}
 use Rattle.judge.specs.Verdicts.{verdictOf, cycleIn}
-use Rattle.judge.specs.Judging.{Lent, judgement, shortBy, tooShort, written, classesOf, judgedOf, onParsed, judgeOf}
+use Rattle.judge.specs.Judging.{Lent, Judgement, judgement, shortBy, tooShort, written, classesOf, judgedOf, onParsed, judgeOf}
 use Rattle.judge.specs.Steps.{Listed}
 
 -- there is at least one class
@@ -54,6 +54,11 @@ module _ (w : ℕ) (fs : List Pattern) where
 pub same-listed : (net : Network) (w : ℕ) (fs : List Pattern) → net .width ≡ w → fs ≡ filters net → listed w fs ≡ listed (net .width) (filters net)
 same-listed net w fs e f = ap₂ listed (sym e) f
 
+-- what Judge gives of an accepted file with at most 512 classes
+abbrev pub fine : Network → Lent → Judgement
+fine net old =
+    judgement (Judged (net .width) (nodesOf net) (length (rulesOf net)) (length (classesOf net)) (verdictOf net)) (written (classesOf net) (cycleIn net (verdictOf net)) old)
+
 module _ (net : Network) (old : Lent) where
   -- 12
   pub judged-many : length (listed (net .width) (filters net)) ≡ 0 → judgedOf net old ≡ judgement (Refused 12 0) (written [] [] old)
@@ -61,9 +66,7 @@ module _ (net : Network) (old : Lent) where
   judged-many e = rw (listed-none (net .width) (filters net) e .0)
 
   -- the class list and the verdict
-  pub judged-fine : (length (listed (net .width) (filters net)) ≡ 0 → ⊥)
-      → judgedOf net old
-      ≡ judgement (Judged (net .width) (nodesOf net) (length (rulesOf net)) (length (classesOf net)) (verdictOf net)) (written (classesOf net) (cycleIn net (verdictOf net)) old)
+  pub judged-fine : (length (listed (net .width) (filters net)) ≡ 0 → ⊥) → judgedOf net old ≡ fine net old
   unfolding judgedOf
   judged-fine f = rw (listed-some (net .width) (filters net) f .0)
 
@@ -119,3 +122,23 @@ long-enough c v s y e = go (ltb c 1024) refl (ltb v 1024) refl (ltb s 1024) refl
     go false p false q true r f t e = absurd (true≢false (sym e))
     go false p false q false r true t e = absurd (true≢false (sym e))
     go false p false q false r false t e = (ltb-false c 1024 p, ltb-false v 1024 q, ltb-false s 1024 r, ltb-false y 64 t)
+
+-- ---- a file that is judged
+
+-- No refusal is a judgement, so what Judge gives then is what its network has.
+pub judged-is : (file : List ℕ) (old : Lent) (w n r c : ℕ) (v : Verdict) (net : Network) → judgeOf file old .answer ≡ Judged w n r c v → parse file ≡ accepted net
+    → judgeOf file old ≡ fine net old
+unfolding judgedOf
+judged-is file old w n r c v net e read = start (tooShort old) refl
+  where
+    few : (b : Bool) → (let j : Judgement = cond b (fine net old) (judgement (Refused 12 0) (written [] [] old)) in j .answer ≡ Judged w n r c v → j ≡ fine net old)
+    few true e = refl
+    few false e = let z : _≡_ {A = ℕ} 0 1 = cc in absurd (omega arith)
+
+    start : (b : Bool) → tooShort old ≡ b → judgeOf file old ≡ fine net old
+    start true t =
+        let no : Refused 13 0 ≡ Judged w n r c v = sym (ap (λ (j : Judgement). j .answer) (judge-short file old (sym t))) ∙ e in
+        let z : _≡_ {A = ℕ} 0 1 = cc in absurd (omega arith)
+    start false t =
+        let is : judgeOf file old ≡ judgedOf net old = judge-long file old (sym t) ∙ ap (λ (p : Parsed). onParsed p old) read in
+        is ∙ few (leb (length (classesOf net)) 512) (sym (ap (λ (j : Judgement). j .answer) is) ∙ e)

@@ -7,5 +7,6 @@ pub mod MarkLaws
 pub mod JudgeLaws
 pub mod FromFile
 pub mod Demand2
+pub mod Demand3Lists
 pub mod Determined
 pub mod Model

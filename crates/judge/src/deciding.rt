@@ -36,7 +36,8 @@ fn mark_all(
             care: cares[j],
             value: values[j],
         };
-        marks[j] = rows::mark_of(file, begins, nodes, width, p);
+        let mark = rows::mark_of(file, begins, nodes, width, p);
+        marks[j] = mark;
         j = j + 1;
     }
 }

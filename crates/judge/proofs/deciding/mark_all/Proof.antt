@@ -26,17 +26,17 @@ loop-holds c =
     let a = c .before .before .before .before .args in
     (omega arith, refl, mark-first (markOf (loops (networkOf (a .file .now)))) (a .cares .now) (a .values .now) (a .n) (a .marks .now))
 
-mul-t12 : tie.Need-mul-t12 Inv-loop μ-loop
-mul-t12 c = omega arith
+mul-t13 : tie.Need-mul-t13 Inv-loop μ-loop
+mul-t13 c = omega arith
 
-shared-slice-read-t14 : tie.Need-shared-slice-read-t14 Inv-loop μ-loop
-shared-slice-read-t14 c = omega arith
+shared-slice-read-t15 : tie.Need-shared-slice-read-t15 Inv-loop μ-loop
+shared-slice-read-t15 c = omega arith
 
-mul-t15 : tie.Need-mul-t15 Inv-loop μ-loop
-mul-t15 c = omega arith
+mul-t16 : tie.Need-mul-t16 Inv-loop μ-loop
+mul-t16 c = omega arith
 
-shared-slice-read-t17 : tie.Need-shared-slice-read-t17 Inv-loop μ-loop
-shared-slice-read-t17 c = omega arith
+shared-slice-read-t18 : tie.Need-shared-slice-read-t18 Inv-loop μ-loop
+shared-slice-read-t18 c = omega arith
 
 mark-of-requires : tie.Need-mark-of-requires Inv-loop μ-loop
 mark-of-requires c κs = search needs
@@ -77,10 +77,10 @@ mark-all-spec =
     Inv-loop
     μ-loop
     loop-holds
-    mul-t12
-    shared-slice-read-t14
-    mul-t15
-    shared-slice-read-t17
+    mul-t13
+    shared-slice-read-t15
+    mul-t16
+    shared-slice-read-t18
     mark-of-requires
     slice-write-marks
     add-j
