@@ -11,16 +11,14 @@ use lib.ListN.{length, getD, set, replicate, length-replicate, getD-replicate, l
 use lib.Seq.{getD-set-same, getD-set-other}
 use lib.Dec.{eqb}
 use borrow.Author.Tests.{eq-eqb, ne-eqb, lt-ltb, le-ltb}
-use Rattle.pattern.specs.declared.Pattern.{Pattern}
-use Rattle.pattern.specs.Filters.{within}
+use Rattle.pattern.specs.Filters.{hits}
 use Rattle.reading.specs.declared.Action.{Action}
 use Rattle.reading.specs.declared.Action.the-variants.{Forward, Drop, Deliver}
-use Rattle.reading.specs.Network.{act}
 use Rattle.classes.specs.Classes.{patternAt}
 use Rattle.rounds.proofs.Cycle.{fuel}
 use Rattle.walk.specs.declared.WalkAnswer.the-variants.{Refused, Delivered, Dropped, Circling}
 use Rattle.walk.specs.Walking.{isIn, onAction, walkFrom, walkBy}
-use Rattle.walk.specs.Steps.{decoded, rulesAt, actsIn}
+use Rattle.walk.specs.Steps.{decoded, firstIn, actsIn}
 
 -- ---- an action byte
 
@@ -36,27 +34,26 @@ pub decoded-forward : (n b : ℕ) → (b ≡ 65 → ⊥) → b < n → decoded n
 unfolding decoded
 decoded-forward n b e h = rw (ne-eqb b 65 e, lt-ltb b n h)
 
--- ---- a table: the first rule that contains the query acts
+-- ---- a table: the first rule that the header matches acts
 
-module _ (cs vs ks : List ℕ) (n : ℕ) (query : Pattern) (e i : ℕ) where
-  pub act-hit : i < e → true ≡ within query (patternAt cs vs i) → act (rulesAt cs vs ks n i (e - i)) query ≡ decoded n (getD ks i 0)
-  unfolding act rulesAt
+module _ (cs vs ks : List ℕ) (n h e i : ℕ) where
+  pub act-hit : i < e → true ≡ hits (patternAt cs vs i) h → firstIn cs vs ks n h i (e - i) ≡ decoded n (getD ks i 0)
+  unfolding firstIn
   act-hit lt m = rw (fuel e i lt, ← m)
 
-  pub act-miss : i < e → false ≡ within query (patternAt cs vs i) → act (rulesAt cs vs ks n i (e - i)) query ≡ act (rulesAt cs vs ks n (i + 1) (e - (i + 1))) query
-  unfolding act rulesAt
+  pub act-miss : i < e → false ≡ hits (patternAt cs vs i) h → firstIn cs vs ks n h i (e - i) ≡ firstIn cs vs ks n h (i + 1) (e - (i + 1))
+  unfolding firstIn
   act-miss lt m = rw (fuel e i lt, ← m, add-one i)
 
-  pub act-none : e ≤ i → act (rulesAt cs vs ks n i (e - i)) query ≡ Drop
-  unfolding act rulesAt
+  pub act-none : e ≤ i → firstIn cs vs ks n h i (e - i) ≡ Drop
+  unfolding firstIn
   act-none le = let z : e - i ≡ 0 = omega arith in rw z
 
 -- what a node does, from where its table begins
-pub acts-at : (cs vs ks firsts : List ℕ) (n : ℕ) (query : Pattern) (node v : ℕ) → v ≡ node
-    → actsIn cs vs ks firsts n query node ≡ act (rulesAt cs vs ks n (getD firsts v 0) (getD firsts (v + 1) 0 - getD firsts v 0)) query
+pub acts-at : (cs vs ks firsts : List ℕ) (n h node v : ℕ) → v ≡ node
+    → actsIn cs vs ks firsts n h node ≡ firstIn cs vs ks n h (getD firsts v 0) (getD firsts (v + 1) 0 - getD firsts v 0)
 unfolding actsIn
-acts-at cs vs ks firsts n query node v e =
-    ap (λ (u : ℕ). act (rulesAt cs vs ks n (getD firsts u 0) (getD firsts (u + 1) 0 - getD firsts u 0)) query) (sym e)
+acts-at cs vs ks firsts n h node v e = ap (λ (u : ℕ). firstIn cs vs ks n h (getD firsts u 0) (getD firsts (u + 1) 0 - getD firsts u 0)) (sym e)
 
 -- ---- the walk, a hop at a time
 

@@ -11,7 +11,7 @@ use lib.ListN.{length, getD, take, drop, replicate, length-append, length-map, L
 use lib.Seq.{drop-cons}
 use borrow.Author.Tests.{ltb-true}
 use Rattle.pattern.specs.declared.Pattern.{Pattern}
-use Rattle.pattern.specs.Filters.{within, headerOf}
+use Rattle.pattern.specs.Filters.{hits, within, headerOf}
 use Rattle.reading.specs.declared.Action.{Action}
 use Rattle.reading.specs.declared.Action.the-variants.{Forward, Drop, Deliver}
 use Rattle.reading.specs.declared.Rule.{Rule}
@@ -25,10 +25,11 @@ use Rattle.classes.specs.Classes.{patternAt}
 use Rattle.judge.specs.Forwarding.{actAt}
 use Rattle.judge.specs.Steps.{networkOf}
 use Rattle.judge.proofs.FromFile.{Told}
+use Rattle.judge.proofs.Model.{firstMatch, node-acts}
 use Rattle.walk.specs.declared.WalkAnswer.{WalkAnswer}
 use Rattle.walk.specs.declared.WalkAnswer.the-variants.{Refused, Circling}
 use Rattle.walk.specs.Walking.{isIn, onAction, walkFrom, walkBy, walkRead, walkOf}
-use Rattle.walk.specs.Steps.{decoded, rulesAt, actsIn, Within}
+use Rattle.walk.specs.Steps.{decoded, firstIn, actsIn, Within}
 use Rattle.walk.proofs.WalkSteps.{decoded-deliver, decoded-drop, decoded-forward}
 
 -- a rule whose action leads to a node below n
@@ -186,33 +187,37 @@ module _ (s : List ℕ) (w n r : ℕ) (t : Told s w n r) (cs vs ks fs : List ℕ
           ap (decoded n) (figure-at codeIn R ks (actionsOf s) (replicate 256 0) actions (arrays .actions) j h)
           ∙ decoded-code n (getD R j blank .action) few (every-at (Leads n) R j all-lead h)
 
-  rules-stand : (j k : ℕ) → j + k ≤ length (rulesOf (networkOf s)) → rulesAt cs vs ks n j k ≡ take k (drop j (rulesOf (networkOf s)))
-  unfolding rulesAt
-  rules-stand j zero h = refl
-  rules-stand j (suc k) h =
-      ap₂ (λ (x : Rule) (L : List Rule). x ∷ L) (rule-at j (omega arith)) (rules-stand (suc j) k (omega arith))
-      ∙ sym (ap (take (suc k)) (drop-cons (rulesOf (networkOf s)) j blank (omega arith)))
+  first-stands : (h j k : ℕ) → j + k ≤ length (rulesOf (networkOf s)) → firstIn cs vs ks n h j k ≡ firstMatch (take k (drop j (rulesOf (networkOf s)))) h
+  unfolding firstIn
+  first-stands h j zero le = refl
+  first-stands h j (suc k) le =
+      ap₂ (λ (x : Rule) (rest : Action). cond (hits (x .pattern) h) (x .action) rest) (rule-at j (omega arith)) (first-stands h (suc j) k (omega arith))
+      ∙ sym (ap (λ (l : List Rule). firstMatch (take (suc k) l) h) (drop-cons (rulesOf (networkOf s)) j blank (omega arith)))
 
-  table-at : (v : ℕ) → v < n → rulesAt cs vs ks n (getD fs v 0) (getD fs (v + 1) 0 - getD fs v 0) ≡ getD (networkOf s .tables) v []
-  table-at v h =
-      rules-stand (getD fs v 0) (getD fs (v + 1) 0 - getD fs v 0) (omega (arith, last-le v (omega arith), last-le (v + 1) (omega arith)))
-      ∙ ap₂ (λ (a b : ℕ). take (b - a) (drop a R)) (first-at v (omega arith)) (first-at (v + 1) (omega arith) ∙ ap (λ (i : ℕ). getD (starts 0 (networkOf s .tables)) i 0) (add-one v))
+  table-at : (v : ℕ) → v < n → take (getD fs (v + 1) 0 - getD fs v 0) (drop (getD fs v 0) (rulesOf (networkOf s))) ≡ getD (networkOf s .tables) v []
+  table-at v lt =
+      ap₂ (λ (a b : ℕ). take (b - a) (drop a R)) (first-at v (omega arith)) (first-at (v + 1) (omega arith) ∙ ap (λ (i : ℕ). getD (starts 0 (networkOf s .tables)) i 0) (add-one v))
       ∙ ap (λ (a : ℕ). take (getD (starts 0 (networkOf s .tables)) (suc v) 0 - getD (starts 0 (networkOf s .tables)) v 0) (drop a R)) (sym (sub-zero (getD (starts 0 (networkOf s .tables)) v 0)))
       ∙ table-in-arrays (networkOf s) v (omega (arith, t .nodes)) .rules
     where
       R : List Rule
       R = rulesOf (networkOf s)
 
-  acts-agree : (query : Pattern) (v : ℕ) → v < n → actsIn cs vs ks fs n query v ≡ actAt (networkOf s) query v
+  -- the first rule that the header matches is the first that contains it as a query
+  acts-agree : (h v : ℕ) → v < n → actsIn cs vs ks fs n h v ≡ actAt (networkOf s) (headerOf w h) v
   unfolding actsIn
-  acts-agree query v h = ap (λ (l : List Rule). act l query) (table-at v h)
+  acts-agree h v lt =
+      first-stands h (getD fs v 0) (getD fs (v + 1) 0 - getD fs v 0) (omega (arith, last-le v (omega arith), last-le (v + 1) (omega arith)))
+      ∙ ap (λ (l : List Rule). firstMatch l h) (table-at v lt)
+      ∙ sym (node-acts s (networkOf s) (t .parsed) h v)
+      ∙ ap (λ (k : ℕ). actAt (networkOf s) (headerOf k h) v) (t .width)
 
   acts-lead : (query : Pattern) (v : ℕ) → v < n → leadsIn n (actAt (networkOf s) query v) ≡ true
   acts-lead query v h = act-leads n (getD (networkOf s .tables) v []) query (every-table (Leads n) (networkOf s .tables) v all-lead)
 
-  pub walk-is : (header start : ℕ) → walkBy (actsIn cs vs ks fs n (headerOf w header)) w n header start ≡ walkOf s header start
+  pub walk-is : (header start : ℕ) → walkBy (actsIn cs vs ks fs n header) w n header start ≡ walkOf s header start
   unfolding walkOf
   walk-is header start =
-      walk-by-same (actsIn cs vs ks fs n (headerOf w header)) (actAt (networkOf s) (headerOf w header)) n (acts-agree (headerOf w header)) (acts-lead (headerOf w header)) w header start
+      walk-by-same (actsIn cs vs ks fs n header) (actAt (networkOf s) (headerOf w header)) n (acts-agree header) (acts-lead (headerOf w header)) w header start
       ∙ ap₂ (λ (k m : ℕ). walkBy (actAt (networkOf s) (headerOf k header)) k m header start) (sym (t .width)) (sym (t .nodes))
       ∙ sym (ap (λ (p : Parsed). walkRead p header start) (t .parsed))

@@ -4,7 +4,6 @@ use reading::ReadAnswer;
 ghost use mathlib.Core.Path.{_≡_};
 ghost use mathlib.Core.List.{[], _∷_};
 ghost use Prim.Native.Nat.{_≤_, _<_};
-ghost use Rattle.pattern.specs.Filters.{headerOf};
 ghost use Rattle.walk.specs.Walking.{walkFrom, walkBy, walkOf};
 ghost use Rattle.walk.specs.Steps.{actsIn, Within};
 
@@ -19,20 +18,20 @@ pub enum WalkAnswer {
 // The action byte that delivers. A byte below the node count forwards, and any other drops.
 const DELIVER: u8 = 65;
 
-// Follows the query from the start: over the hops, and inside over the rules of the node's table. `seen` has a 1 at each node entered.
+// Follows the header from the start: over the hops, and inside over the rules of the node's table. `seen` has a 1 at each node entered.
 fn follow(
     cares: &[u32; 256],
     values: &[u32; 256],
     actions: &[u8; 256],
     firsts: &[usize; 65],
     nodes: u8,
-    query: Pattern,
+    header: u32,
     start: u8,
 ) -> WalkAnswer
     requires few { ⌜ nodes ≤ 64 ⌝ }
     requires begins { ⌜ start < nodes ⌝ }
     requires within { ⌜ Within (now firsts) nodes ⌝ }
-    ensures { λ r. ⌜ r ≡ walkFrom (actsIn (now (cares .entry)) (now (values .entry)) (now (actions .entry)) (now (firsts .entry)) nodes query) (start ∷ []) start 0 nodes ⌝ }
+    ensures { λ r. ⌜ r ≡ walkFrom (actsIn (now (cares .entry)) (now (values .entry)) (now (actions .entry)) (now (firsts .entry)) nodes header) (start ∷ []) start 0 nodes ⌝ }
 {
     let mut seen = [0u8; 64];
     seen[rounds::wide(start)] = 1;
@@ -53,7 +52,7 @@ fn follow(
                 care: cares[i],
                 value: values[i],
             };
-            if query.within(p) {
+            if p.hits(header) {
                 let next = actions[i];
                 if next == DELIVER {
                     break 'walk WalkAnswer::Delivered { node, hops };
@@ -91,7 +90,7 @@ fn walk_read(
     requires narrow { ⌜ width ≤ 32 ⌝ }
     requires few { ⌜ nodes ≤ 64 ⌝ }
     requires within { ⌜ Within (now firsts) nodes ⌝ }
-    ensures { λ r. ⌜ r ≡ walkBy (actsIn (now (cares .entry)) (now (values .entry)) (now (actions .entry)) (now (firsts .entry)) nodes (headerOf width header)) width nodes header start ⌝ }
+    ensures { λ r. ⌜ r ≡ walkBy (actsIn (now (cares .entry)) (now (values .entry)) (now (actions .entry)) (now (firsts .entry)) nodes header) width nodes header start ⌝ }
 {
     let most = pattern::low_ones(width) as u64;
     if most < header {
@@ -106,8 +105,7 @@ fn walk_read(
             place: 0,
         };
     }
-    let query = Pattern::of_header(width, header as u32);
-    follow(cares, values, actions, firsts, nodes, query, start)
+    follow(cares, values, actions, firsts, nodes, header as u32, start)
 }
 
 // Walk: follows a header from a start node.
