@@ -2,7 +2,7 @@
 #include "lanecompass.h"
 #include <stdio.h>
 
-enum { READ = 4096 };
+enum { READ = 4096 }; /* no answer depends on bytes after these */
 
 /* The letters of a pattern of `width` bits, the highest bit left, * where the bit is free. */
 static void print_pattern(unsigned width, uint32_t care, uint32_t value) {
@@ -27,6 +27,10 @@ int main(int argc, char **argv) {
         return 2;
     }
     size_t length = fread(file, 1, READ, input);
+    if (ferror(input)) {
+        fprintf(stderr, "desk: cannot read %s\n", argv[1]);
+        return 2;
+    }
     fclose(input);
 
     uint8_t number = lanecompass_judge(file, length, cares, LANECOMPASS_CLASSES, values, LANECOMPASS_CLASSES,

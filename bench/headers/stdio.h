@@ -10,4 +10,5 @@ int putchar(int);
 FILE *fopen(const char *, const char *);
 size_t fread(void *, size_t, size_t, FILE *);
 size_t fwrite(const void *, size_t, size_t, FILE *);
+int ferror(FILE *);
 int fclose(FILE *);

@@ -1,4 +1,4 @@
--- The code's step, by kind, agrees with the rows of the table of refusals. Assumes nothing.
+-- The code's step, by kind, agrees with the rows of the table of refusals.
 use Prim.Native.Nat.{ℕ, _+_, _^_}
 use mathlib.Core.Bool.{Bool, false, cond, not, _&&_}
 use mathlib.Core.List.{List}

@@ -1,6 +1,6 @@
 -- Demand 1, of the file: every file has its answer, each refusal is given exactly on its condition at its place, an accepted
 -- file keeps the bounds of paper 01, no answer depends on bytes past 4,096, and the arrays and the parts of the file agree with
--- the network. Assumes nothing.
+-- the network.
 use Prim.Native.Nat.{ℕ, suc, _+_, _-_, _≤_, _<_}
 use mathlib.Core.Bool.{true, false}
 use mathlib.Core.List.{List, [], _∷_, _++_, map, flatten, map-map}

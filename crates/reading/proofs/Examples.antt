@@ -1,4 +1,4 @@
--- Files of paper 01, whole and damaged, with what Read answers: one table under one claim, computed. Assumes nothing.
+-- Files of paper 01, whole and damaged, with what Read answers: one table under one claim, computed.
 use Prim.Native.Nat.{ℕ}
 use mathlib.Core.List.{List, [], _∷_, _++_, map, flatten}
 use mathlib.Core.Path.{_≡_, refl}

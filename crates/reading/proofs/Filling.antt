@@ -1,5 +1,5 @@
 -- Filling the working arrays: between two records each array holds its numbers of the records taken in, then what stood there.
--- Assumes nothing.
+--
 use Prim.Native.Nat.{ℕ, suc, _+_, _-_, _<_}
 use mathlib.Core.List.{List, [], _∷_, _++_, append-assoc, append-nil}
 use mathlib.Core.Path.{_≡_, refl, sym, ap, subst, _∙_}

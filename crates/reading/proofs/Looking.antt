@@ -1,4 +1,4 @@
--- The lookup in a table's part: between two records the rest of the part gives the answer. Assumes nothing.
+-- The lookup in a table's part: between two records the rest of the part gives the answer.
 use Prim.Native.Nat.{ℕ, zero, suc, _+_, _-_, _≤_, _<_}
 use mathlib.Core.Bool.{true, false}
 use mathlib.Core.List.{List}

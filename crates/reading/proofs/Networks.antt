@@ -1,4 +1,4 @@
--- What an accepted file gives: the bounds of its network, and the numbers that are noted of its rules and tables. Assumes nothing.
+-- What an accepted file gives: the bounds of its network, and the numbers that are noted of its rules and tables.
 use Prim.Native.Nat.{ℕ, suc, _+_, _-_, _≤_, _<_}
 use mathlib.Core.Bool.{true}
 use mathlib.Core.List.{List, [], _∷_, _++_, map, flatten}

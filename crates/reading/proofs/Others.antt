@@ -1,4 +1,4 @@
--- The arms of a match that stand for all variants but one. Assumes nothing.
+-- The arms of a match that stand for all variants but one.
 use mathlib.Core.Bool.{false}
 use mathlib.Core.List.{[], _∷_}
 use mathlib.Core.Path.{_≡_, refl}

@@ -1,4 +1,4 @@
--- Each node's table is a part of the file: the rule records between two marks give that node's rules. Assumes nothing.
+-- Each node's table is a part of the file: the rule records between two marks give that node's rules.
 use Prim.Native.Nat.{ℕ, zero, suc, _+_, _-_, _≤_, _<_}
 use mathlib.Core.List.{List, [], _∷_}
 use mathlib.Core.Path.{_≡_, refl, sym, ap, subst, _∙_}

@@ -1,5 +1,5 @@
 -- What stands at a place of the file: the record reader's ways out, and that a record that is handed back lies within the file.
--- Assumes nothing.
+--
 use Prim.Native.Nat.{ℕ, _+_, _-_, _≤_, _<_}
 use mathlib.Core.Bool.{cond}
 use mathlib.Core.List.{List}

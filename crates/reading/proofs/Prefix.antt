@@ -1,4 +1,4 @@
--- No answer depends on bytes past the first 4,096: the reading never gets there. Assumes nothing.
+-- No answer depends on bytes past the first 4,096: the reading never gets there.
 use Prim.Native.Nat.{ℕ, zero, suc, _+_, _-_, _≤_, _<_}
 use mathlib.Core.Bool.{Bool, cond}
 use mathlib.Core.List.{List}

@@ -1,5 +1,5 @@
 -- Reading a file in a loop: between two records, the rest of the file gives what `readOf` gives, and what the working arrays
--- are to hold. Assumes nothing.
+-- are to hold.
 use Prim.Native.Nat.{ℕ, suc, _+_, _-_, _<_}
 use mathlib.Core.List.{List, [], flatten}
 use mathlib.Core.Path.{_≡_, refl, sym, ap, _∙_}

@@ -1,4 +1,4 @@
--- The table of kinds: the case fixes the body's length, and what holds of each row holds of every kind byte. Assumes nothing.
+-- The table of kinds: the case fixes the body's length, and what holds of each row holds of every kind byte.
 use Prim.Native.Nat.{ℕ, zero, suc, _+_, _-_, _≤_, _<_}
 use mathlib.Core.List.{List, [], _∷_}
 use mathlib.Core.Path.{_≡_, refl, sym, subst}

@@ -1,4 +1,4 @@
--- The working arrays by node: a table's rules stand between the numbers of two first rules. Assumes nothing.
+-- The working arrays by node: a table's rules stand between the numbers of two first rules.
 use Prim.Native.Nat.{ℕ, zero, suc, _+_, _-_, _≤_, _<_}
 use mathlib.Core.List.{List, [], _∷_, _++_, flatten}
 use mathlib.Core.Path.{_≡_, refl, ap, _∙_}

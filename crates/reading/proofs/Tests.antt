@@ -1,4 +1,4 @@
--- Going by cases on a computed test. Assumes nothing.
+-- Going by cases on a computed test.
 use mathlib.Core.Bool.{Bool, true, false, cond, true≢false}
 use mathlib.Core.Path.{_≡_, refl}
 use Prim.Native.Nat.{ℕ, _<_}

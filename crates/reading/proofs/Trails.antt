@@ -1,5 +1,5 @@
 -- The trail of a reading: the states from one on, record by record, to the refusal or the end. Every law of a whole file goes
--- down this trail. Assumes nothing.
+-- down this trail.
 use Prim.Native.Nat.{ℕ, zero, suc, _+_, _*_, _≤_, _<_}
 use mathlib.Core.List.{List, []}
 use mathlib.Core.Path.{_≡_, refl, sym, ap, subst}

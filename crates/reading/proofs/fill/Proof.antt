@@ -1,4 +1,4 @@
--- The working arrays are filled. Between two records each holds its numbers of the records taken in (`Filling`). Assumes nothing.
+-- The working arrays are filled. Between two records each holds its numbers of the records taken in (`Filling`).
 use Prim.Native.Nat.{_-_}
 use mathlib.Core.Path.{sym, _∙_}
 use lib.ListN.{length}

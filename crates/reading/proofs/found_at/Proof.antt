@@ -1,4 +1,4 @@
--- The rule record at a place of a table's part. Assumes nothing.
+-- The rule record at a place of a table's part.
 use Rattle.reading.specs.Arrays.{goodRule}
 use native.Mathlib.Omega.{arith}
 use mathlib.Core.Path.{sym, ap, _∙_}

@@ -1,4 +1,4 @@
--- The lookup in a table's part. Between two records, the rest of the part gives the answer (`Looking`). Assumes nothing.
+-- The lookup in a table's part. Between two records, the rest of the part gives the answer (`Looking`).
 use Prim.Native.Nat.{_-_}
 use mathlib.Core.Path.{sym, _∙_}
 use lib.ListN.{length}

@@ -1,4 +1,4 @@
--- What the rule record at a place does. Assumes nothing.
+-- What the rule record at a place does.
 use native.Mathlib.Omega.{arith}
 use borrow.Author.Needs.{needs}
 use Rattle.reading.proofs.records.action_at.Statement.{statement}

@@ -1,4 +1,4 @@
--- What stands at a place of the file. Assumes nothing.
+-- What stands at a place of the file.
 use Rattle.reading.proofs.Places.{short-record, whole-there, whole-record}
 use borrow.Author.Tests.{le-leb}
 use Rattle.reading.specs.Code.{recordAt}

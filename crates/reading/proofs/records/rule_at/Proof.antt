@@ -1,4 +1,4 @@
--- The rule record at a place. Assumes nothing.
+-- The rule record at a place.
 use native.Mathlib.Omega.{arith}
 use mathlib.Core.Path.{subst}
 use Prim.Native.Nat.{_+_, _-_, _<_}

@@ -1,4 +1,4 @@
--- The rule kinds of one notation. Assumes nothing.
+-- The rule kinds of one notation.
 use borrow.Author.Tests.{eq-eqb, ne-eqb}
 use Rattle.reading.proofs.records.rule_shape.Statement.{statement}
 use Rattle.reading.proofs.records.rule_shape.Tie as tie

@@ -1,4 +1,4 @@
--- The code's match is the table of kinds. Assumes nothing.
+-- The code's match is the table of kinds.
 use native.Mathlib.Omega.{arith}
 use mathlib.Core.Path.{_∙_}
 use Rattle.reading.specs.Kinds.{shapeOf}

@@ -1,4 +1,4 @@
--- The record of a case at a place. Assumes nothing.
+-- The record of a case at a place.
 use native.Mathlib.Omega.{arith}
 use mathlib.Core.Path.{subst, _∙_}
 use Prim.Native.Nat.{_+_, _-_, _<_}

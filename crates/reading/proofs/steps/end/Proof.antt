@@ -1,4 +1,4 @@
--- 7F: the end, and nothing more. Assumes nothing.
+-- 7F: the end, and nothing more.
 use borrow.Author.Tests.{lt-ltb, le-ltb}
 use mathlib.Core.Path.{sym, _∙_}
 use Rattle.reading.specs.Code.{endStep}

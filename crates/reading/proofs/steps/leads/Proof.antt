@@ -1,4 +1,4 @@
--- Whether an action leads to a node that is there. Assumes nothing.
+-- Whether an action leads to a node that is there.
 use borrow.Author.Needs.{needs}
 use Rattle.reading.proofs.steps.leads.Statement.{statement}
 use Rattle.reading.proofs.steps.leads.Tie as tie

@@ -1,4 +1,4 @@
--- Whether a record of a known case is out of place. Assumes nothing.
+-- Whether a record of a known case is out of place.
 use borrow.Author.Tests.{eq-eqb, ne-eqb}
 use borrow.Author.Needs.{needs}
 use Rattle.reading.proofs.steps.misplaced.Statement.{statement}

@@ -1,4 +1,4 @@
--- 01: the width and the node count. Assumes nothing.
+-- 01: the width and the node count.
 use borrow.Author.Tests.{le-leb, lt-leb}
 use mathlib.Core.Path.{sym, _∙_}
 use Rattle.reading.specs.Code.{networkStep}

@@ -1,4 +1,4 @@
--- The filter that a rule record writes. Assumes nothing.
+-- The filter that a rule record writes.
 use mathlib.Core.Path.{_∙_}
 use borrow.Author.Needs.{needs}
 use Rattle.reading.proofs.steps.noted.Statement.{statement}

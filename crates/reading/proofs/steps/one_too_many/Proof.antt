@@ -1,4 +1,4 @@
--- Whether a record would be a 257th rule. Assumes nothing.
+-- Whether a record would be a 257th rule.
 use Rattle.reading.proofs.Others.{no-rule-case}
 use borrow.Author.Needs.{needs}
 use Rattle.reading.proofs.steps.one_too_many.Statement.{statement}

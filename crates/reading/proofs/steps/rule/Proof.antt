@@ -1,4 +1,4 @@
--- 03 to 05 and 13 to 15: a rule of the table. Assumes nothing.
+-- 03 to 05 and 13 to 15: a rule of the table.
 use borrow.Author.Tests.{le-leb, lt-leb}
 use mathlib.Core.Path.{sym, _∙_}
 use Rattle.reading.specs.Code.{ruleStep, filterStep}

@@ -1,4 +1,4 @@
--- A rule whose filter is good. Assumes nothing.
+-- A rule whose filter is good.
 use mathlib.Core.Path.{sym, _∙_}
 use Rattle.reading.specs.Code.{ruledStep}
 use borrow.Author.Needs.{needs}

@@ -1,4 +1,4 @@
--- A record that the file's end cuts short. Assumes nothing.
+-- A record that the file's end cuts short.
 use mathlib.Core.Path.{sym, _∙_}
 use borrow.Author.Needs.{needs}
 use Rattle.reading.proofs.steps.short.Statement.{statement}

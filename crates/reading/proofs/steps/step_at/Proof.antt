@@ -1,4 +1,4 @@
--- The record at the state's place. Assumes nothing.
+-- The record at the state's place.
 use native.Mathlib.Omega.{arith}
 use mathlib.Core.Path.{sym, _∙_}
 use Rattle.reading.specs.Code.{stepOn}

@@ -1,4 +1,4 @@
--- 02: the next node's table begins. Assumes nothing.
+-- 02: the next node's table begins.
 use Rattle.reading.proofs.Onward.{table-placed}
 use native.Mathlib.Omega.{arith}
 use borrow.Author.Tests.{eq-eqb, ne-eqb}
