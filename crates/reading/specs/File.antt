@@ -32,6 +32,7 @@ actionOf Drops next = Drop
 actionOf Delivers next = Deliver
 
 -- What a good record does: the network record opens the reading, a table record begins the next table, a rule joins its table.
+-- No record of an unknown kind is good.
 abbrev pub goodAt : List ℕ → State → Case → ℕ → Step
 goodAt s st Network next = Opened (record { at = next; width = byteAt s (st .at + 1); nodes = byteAt s (st .at + 2); tables = 0; rules = 0 })
 goodAt s st Table next = Begun (record { at = next; width = st .width; nodes = st .nodes; tables = st .tables + 1; rules = st .rules })
@@ -71,7 +72,7 @@ onStep st (Begun next) go = newTable (go next)
 onStep st (Ruled next r) go = withRule r (go next)
 onStep st Ended go = rest (st .width) [] []
 
--- At most so many records.
+-- At most so many records; `parse` gives enough, so that the first clause is never met.
 unfoldable pub run : ℕ → List ℕ → State → Rest
 run zero s st = stop 0 0
 run (suc f) s st = onStep st (stepOf s st) (run f s)
@@ -84,6 +85,7 @@ pub data Parsed : Type 0 where
   refused : ℕ → ℕ → Parsed
   accepted : TheNetwork → Parsed
 
+-- No rule stands before the first table: `rs` is empty.
 abbrev pub whole : Rest → Parsed
 whole (stop n p) = refused n p
 whole (rest w rs ts) = accepted (record { width = w; tables = ts })

@@ -22,7 +22,8 @@ rulesOf net = flatten (net .tables)
 abbrev pub filters : Network → List Pattern
 filters net = map (λ r. r .pattern) (rulesOf net)
 
--- What a table does with a query: a class's pattern, or a header as the pattern that cares for every bit.
+-- What a table does with a query: a class's pattern, or a header as the pattern that cares for every bit. Such a pattern lies
+-- within a filter exactly when the header matches it.
 unfoldable pub act : List Rule → Pattern → Action
 act [] q = Drop
 act (r ∷ rs) q = cond (within q (r .pattern)) (r .action) (act rs q)

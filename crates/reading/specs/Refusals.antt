@@ -38,7 +38,7 @@ isUnknown (Rule n d) = false
 isUnknown End = false
 isUnknown Unknown = true
 
--- 01 is missing first or repeated, 02 stands after N tables, a rule before a table, 7F before N tables.
+-- 01 is missing first or repeated, 02 stands after N tables, a rule before a table, 7F before N tables. Before 01 the state's width is 0.
 abbrev pub outOfPlace : Case → State → Bool
 outOfPlace Network st = not (eqb (st .width) 0)
 outOfPlace Table st = cond (eqb (st .width) 0) true (leb (st .nodes) (st .tables))
@@ -102,7 +102,7 @@ fieldRows s st Unknown = []
 -- The rows for the record at the state's place, whose kind has this shape.
 abbrev pub rowsAt : List ℕ → State → Shape → List Row
 rowsAt s st sh =
-    -- The file ends where a record should start.
+    -- The file ends where a record should start: there is no kind to look at.
     row (leb (length s) (st .at)) 3 (length s)
     -- The kind is not in the table.
     ∷ row (isUnknown (sh .case)) 1 (st .at)
