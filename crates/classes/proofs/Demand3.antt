@@ -2,14 +2,15 @@
 -- when no filter tells them apart, and the sizes are true.
 use mathlib.Core.Path.{_≡_, refl, sym, ap, _∙_, subst}
 use mathlib.Core.Logic.{_↔_, _⊎_, inl, inr}
-use mathlib.Core.Bool.{Bool, true, false, not, _&&_, _||_}
+use mathlib.Core.Bool.{Bool, true, false, not, _&&_, _||_, cond}
 use mathlib.Core.List.{List, [], _∷_}
 use Prim.Native.Nat.{ℕ, _+_, _^_, _≤_, _<_}
 use native.Mathlib.Omega.{arith}
 use lib.Dec.{T, T-not}
 use lib.ListN.{length}
+use lib.Pow.{pow-pos}
 use Rattle.pattern.specs.declared.Pattern.{Pattern}
-use Rattle.pattern.specs.Filters.{hits, within, count}
+use Rattle.pattern.specs.Filters.{hits, allFree, within, common, count}
 use Rattle.pattern.proofs.Tests.{both, iff-eq}
 use Rattle.pattern.proofs.Within.{within-says, within-antisym}
 use Rattle.pattern.proofs.Size.{count-ext}
@@ -17,7 +18,7 @@ use Rattle.classes.specs.Classes.{patOf, same, Entry, classList, among}
 use Rattle.classes.specs.Steps.{sumIf}
 use Rattle.classes.proofs.Order.{or-r, or-says, same-says, among-first, ascending}
 use Rattle.classes.proofs.Partition.{own}
-use Rattle.classes.proofs.Headers.{alike-pat, alike-all, alike-hits, pat-alike}
+use Rattle.classes.proofs.Headers.{pat-none, pat-miss, pat-hit, alike-pat, alike-all, alike-hits, pat-alike}
 use Rattle.classes.proofs.Tally.{pats, list-sizes, list-proper, list-total, list-set, listed-size, list-has}
 use Rattle.classes.proofs.Listed.{listed-fit, listed-least, list-ascending, Every, every-entry}
 use Rattle.classes.proofs.Number.{list-prefix}
@@ -67,8 +68,22 @@ least-from (e ∷ L) p h f =
     go true g = g tt
     go false g = tt
 
+-- ---- what a header is listed under: the common part of all filters that it matches
+
+-- Of no filters it is all-free ..
+pub all-free-of-none : (h : ℕ) → patOf [] h ≡ allFree
+all-free-of-none = pat-none
+
+-- .. and with one more filter it is the common part with that one where the header matches it, and the same where it does not.
+pub common-part : (f : Pattern) (fs : List Pattern) (h : ℕ) → patOf (f ∷ fs) h ≡ cond (hits f h) (common (patOf fs h) f) (patOf fs h)
+common-part f fs h = go (hits f h) refl
+  where
+    go : (b : Bool) → hits f h ≡ b → patOf (f ∷ fs) h ≡ cond b (common (patOf fs h) f) (patOf fs h)
+    go true e = pat-hit f fs h e
+    go false e = pat-miss f fs h e
+
 module _ (w : ℕ) (fs : List Pattern) where
-  -- ---- the home of a header is the common part of the filters that it matches
+  -- ---- the home of a header is the pattern that it is listed under
 
   pub own-home : (h : ℕ) → h < 2 ^ w → T (home (classList w fs) (patOf fs h) h)
   own-home h l =
@@ -124,6 +139,14 @@ module _ (w : ℕ) (fs : List Pattern) where
       sums : (L : List Entry) → total L ≡ sumIf (λ p. true) L
       sums [] = refl
       sums (e ∷ L) = ap (λ (n : ℕ). e .size + n) (sums L)
+
+  -- There is at least one class.
+  pub some-class : 1 ≤ length (classList w fs)
+  some-class = go (classList w fs) (list-total w fs)
+    where
+      go : (L : List Entry) → sumIf (λ p. true) L ≡ 2 ^ w → 1 ≤ length L
+      go [] e = absurd (omega (arith, e, pow-pos w))
+      go (e ∷ L) t = omega arith
 
   -- The entries stand in the order of care mask, then value.
   pub in-order : T (ascending (pats (classList w fs)))

@@ -1,5 +1,5 @@
 -- The class list of no filters, and of one more filter at the end of the filters that stand in two lists.
-use mathlib.Core.Path.{_≡_, refl, sym, ap, ap₂, _∙_, subst}
+use mathlib.Core.Path.{_≡_, sym, ap, ap₂, _∙_, subst}
 use mathlib.Core.List.{List, [], _∷_, _++_}
 use Prim.Native.Nat.{ℕ, zero, suc, _+_, _-_, _^_, _≤_, _<_}
 use native.Mathlib.Nat.{le-of-suc-le, sub-zero}
@@ -10,13 +10,11 @@ use lib.Pow.{pow-pos}
 use lib.ListN.{length}
 use Rattle.pattern.specs.declared.Pattern.{Pattern}
 use Rattle.pattern.specs.Filters.{allFree, WellFormed}
-use Rattle.pattern.proofs.Digits.{none, _∩_, _≐_, by-bits}
-use Rattle.pattern.proofs.Masks.{x0}
 use Rattle.pattern.proofs.Size.{count-ext}
 use Rattle.classes.specs.Classes.{patOf, same, entry, classList, patternAt, patternsFrom, AllWellFormed}
 use Rattle.classes.specs.Steps.{takenIn, Sound}
 use Rattle.classes.proofs.Counts.{count-same}
-use Rattle.classes.proofs.Headers.{care-snoc}
+use Rattle.classes.proofs.Headers.{pat-none, care-snoc}
 use Rattle.classes.proofs.Tally.{list-unique, list-same}
 use Rattle.classes.proofs.Number.{list-prefix}
 use Rattle.classes.proofs.Sift.{sift-sound}
@@ -30,11 +28,8 @@ list-start w =
     (λ q. omega (
       arith,
       count-same (same allFree q) (2 ^ w),
-      count-ext (λ h. same (patOf [] h) q) (λ h. same allFree q) (2 ^ w) (λ h l. ap (λ (p : Pattern). same p q) (free h)),
+      count-ext (λ h. same (patOf [] h) q) (λ h. same allFree q) (2 ^ w) (λ h l. ap (λ (p : Pattern). same p q) (pat-none h)),
     ))
-  where
-    free : (h : ℕ) → patOf [] h ≡ allFree
-    free h = λ i. record { care = 0; value = by-bits (h ∷ []) [] (x0 ∩ none ≐ none) tt i }
 
 -- ---- one more filter at the end
 
@@ -44,14 +39,6 @@ list-snoc w fs f =
     (λ h l. ap (λ (x : ℕ). let r : Pattern = record { care = x; value = bitAnd h x } in r) (sym (care-snoc fs f h)))
 
 -- ---- the filters in two lists
-
-snoc-cons : (fs gs : List Pattern) (f : Pattern) → fs ++ f ∷ gs ≡ (fs ++ f ∷ []) ++ gs
-snoc-cons [] gs f = refl
-snoc-cons (x ∷ fs) gs f = ap (λ (l : List Pattern). x ∷ l) (snoc-cons fs gs f)
-
-append-nil : (fs : List Pattern) → fs ++ [] ≡ fs
-append-nil [] = refl
-append-nil (x ∷ fs) = ap (λ (l : List Pattern). x ∷ l) (append-nil fs)
 
 pub patternsFrom-snoc : (cs vs : List ℕ) (i m : ℕ) → patternsFrom cs vs i (suc m) ≡ patternsFrom cs vs i m ++ patternAt cs vs (i + m) ∷ []
 unfolding patternsFrom

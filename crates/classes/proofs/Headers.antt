@@ -5,10 +5,10 @@ use mathlib.Core.Bool.{Bool, true, false, _&&_, _||_, cond, Bool·beq}
 use mathlib.Core.List.{List, [], _∷_, _++_}
 use Prim.Native.Nat.{ℕ, _^_, _<_}
 use lib.Dec.{T}
-use lib.Bits.{bitAnd, bitOr, or-lt}
+use lib.Bits.{bitAnd, bitOr, and-zero-r, or-lt}
 use lib.Pow.{pow-pos}
 use Rattle.pattern.specs.declared.Pattern.{Pattern}
-use Rattle.pattern.specs.Filters.{hits, common}
+use Rattle.pattern.specs.Filters.{hits, allFree, common}
 use Rattle.pattern.proofs.Tests.{both, iff-eq}
 use Rattle.pattern.proofs.Digits.{Ex, var, none, _∩_, _∪_, _≐_, by-bits}
 use Rattle.pattern.proofs.Masks.{x0, x1, x2, x3, x4, sub-antisym}
@@ -20,7 +20,10 @@ use Rattle.classes.proofs.Partition.{Closed, hits-own}
 abbrev x5 : Ex
 x5 = var 5
 
--- ---- one more filter
+-- ---- no filter, and one more
+
+pub pat-none : (h : ℕ) → patOf [] h ≡ allFree
+pat-none h = λ i. record { care = 0; value = and-zero-r h i }
 
 pub pat-miss : (f : Pattern) (fs : List Pattern) (h : ℕ) → hits f h ≡ false → patOf (f ∷ fs) h ≡ patOf fs h
 pat-miss f fs h e =

@@ -15,5 +15,4 @@ pub mod Rows
 pub mod Steps
 pub mod Whole
 pub mod Laid
-pub mod Determined
 pub mod Demand3

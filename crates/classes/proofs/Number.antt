@@ -10,7 +10,7 @@ use lib.Dec.{T, eqb, eqb→eq}
 use lib.ListN.{length}
 use Rattle.pattern.specs.declared.Pattern.{Pattern}
 use Rattle.pattern.specs.Filters.{hits, count}
-use Rattle.pattern.proofs.Tests.{eq→eqb, both, iff-eq}
+use Rattle.pattern.proofs.Tests.{eq→eqb, both, iff-eq, beside}
 use Rattle.pattern.proofs.Digits.{none}
 use Rattle.pattern.proofs.Size.{ind, count-ext}
 use Rattle.classes.specs.Classes.{patOf, same, Entry, classList, among}
@@ -38,19 +38,11 @@ sum-ext-in f g [] e = refl
 sum-ext-in f g (q ∷ K) e =
     ap₂ (λ (x y : ℕ). x + y) (e q (among-first q K)) (sum-ext-in f g K (λ r m. e r (or-r (same r q) (among r K) m)))
 
-and-false : (a : Bool) → a && false ≡ false
-and-false true = refl
-and-false false = refl
-
-beside : (a b s : Bool) → (T s → a ≡ b) → a && s ≡ b && s
-beside a b true e = ap (λ (x : Bool). x && true) (e tt)
-beside a b false e = and-false a ∙ sym (and-false b)
-
 -- a class has one leader if it has a header
 one-leader : (n : ℕ) (fs : List Pattern) (q : Pattern) → zero < count (λ h. same (patOf fs h) q) n → count (λ h. leads fs h && same (patOf fs h) q) n ≡ 1
 one-leader n fs q some =
     count-ext (λ h. leads fs h && same (patOf fs h) q) (λ h. eqb (count (λ k. same (patOf fs k) q) h) 0 && same (patOf fs h) q) n
-    (λ h _. beside (leads fs h) (eqb (count (λ k. same (patOf fs k) q) h) 0) (same (patOf fs h) q) (λ t. lead h (same-says (patOf fs h) q .0 t)))
+    (λ h _. beside (leads fs h) (eqb (count (λ k. same (patOf fs k) q) h) 0) (same (patOf fs h) q) (λ t. lead h (same-says (patOf fs h) q .0 (subst T (sym t) tt))))
     ∙ first-count (λ k. same (patOf fs k) q) n
     ∙ ap (λ (b : Bool). cond b 0 1) (iff-eq (eqb (count (λ k. same (patOf fs k) q) n) 0) false
     (λ t. none (count (λ k. same (patOf fs k) q) n) some (eqb→eq (count (λ k. same (patOf fs k) q) n) 0 t)) (λ t. absurd t))

@@ -1,7 +1,7 @@
 -- Some marked class has a header under a prefix: as the counts say it, and as a header that says so. Some class is marked at all.
-use mathlib.Core.Path.{_≡_, refl, sym, ap, _∙_, subst}
+use mathlib.Core.Path.{_≡_, sym, ap, _∙_, subst}
 use mathlib.Core.Logic.{_⊎_, inl, inr}
-use mathlib.Core.Bool.{Bool, true, false, not, _&&_, _||_}
+use mathlib.Core.Bool.{Bool, not, _&&_, _||_, Bool·not-not}
 use mathlib.Core.List.{List, [], _∷_, map}
 use Prim.Native.Nat.{ℕ, zero, suc, _^_, _<_}
 use native.Mathlib.Omega.{arith}
@@ -15,10 +15,6 @@ use Rattle.least.specs.Steps.{someMarked, someOf}
 use Rattle.classes.proofs.Counts.{count-some, count-pos}
 use Rattle.classes.proofs.Order.{or-l, or-r, or-says, same-says, among-first}
 use Rattle.least.proofs.Counts.{part, counted}
-
-not-not : (b : Bool) → not (not b) ≡ b
-not-not true = refl
-not-not false = refl
 
 -- the marks from place j on say which patterns of K pass the test
 abbrev pub Marked : (Pattern → Bool) → List ℕ → ℕ → List Pattern → Type 0
@@ -37,7 +33,7 @@ module _ (w : ℕ) (g : ℕ → Pattern) (t : ℕ → Bool) (goes : Pattern → 
           let b = both (not (eqb (getD marks j 0) 0)) (not (eqb (part w g t p) 0)) .0 s in
           let c = count-some (λ h. t h && same (g h) p) (2 ^ w) (pos (part w g t p) (b .1)) in
           let d = both (t (c .0)) (same (g (c .0)) p) .0 (c .2) in
-          (c .0, c .1, d .0, subst (λ (q : Pattern). T (goes q)) (sym (same-says (g (c .0)) p .0 (d .1))) (subst T (ap not (m .0) ∙ not-not (goes p)) (b .0)))
+          (c .0, c .1, d .0, subst (λ (q : Pattern). T (goes q)) (sym (same-says (g (c .0)) p .0 (d .1))) (subst T (ap not (m .0) ∙ Bool·not-not (goes p)) (b .0)))
         where
           pos : (x : ℕ) → T (not (eqb x 0)) → zero < x
           pos zero s = absurd s
@@ -57,7 +53,7 @@ module _ (w : ℕ) (g : ℕ → Pattern) (t : ℕ → Bool) (goes : Pattern → 
       here : T (same (g h) p) → T (not (eqb (getD marks j 0) 0) && not (eqb (part w g t p) 0))
       here s =
           both (not (eqb (getD marks j 0) 0)) (not (eqb (part w g t p) 0)) .1 (
-            subst T (sym (ap not (m .0) ∙ not-not (goes p))) (subst (λ (q : Pattern). T (goes q)) (same-says (g h) p .0 s) b),
+            subst T (sym (ap not (m .0) ∙ Bool·not-not (goes p))) (subst (λ (q : Pattern). T (goes q)) (same-says (g h) p .0 s) b),
             nonzero (part w g t p) (count-pos (λ k. t k && same (g k) p) (2 ^ w) h l (both (t h) (same (g h) p) .1 (a, s))),
           )
         where
@@ -78,7 +74,7 @@ module _ (goes : Pattern → Bool) (marks : List ℕ) where
     where
       go : (T (someMarked marks marks (suc j) (length K)) → (q : Pattern) × T (among q K) × T (goes q))
           → T (not (eqb (getD marks j 0) 0) && not (eqb (getD marks j 0) 0)) ⊎ T (someMarked marks marks (suc j) (length K)) → (q : Pattern) × T (among q (p ∷ K)) × T (goes q)
-      go rest (inl t) = (p, among-first p K, subst T (ap not (m .0) ∙ not-not (goes p)) (both (not (eqb (getD marks j 0) 0)) (not (eqb (getD marks j 0) 0)) .0 t .0))
+      go rest (inl t) = (p, among-first p K, subst T (ap not (m .0) ∙ Bool·not-not (goes p)) (both (not (eqb (getD marks j 0) 0)) (not (eqb (getD marks j 0) 0)) .0 t .0))
       go rest (inr t) = let r = rest t in (r .0, or-r (same (r .0) p) (among (r .0) K) (r .1), r .2)
 
   pub any-there : (j : ℕ) (K : List Pattern) → Marked goes marks j K → (q : Pattern) → T (among q K) → T (goes q) → T (someMarked marks marks j (length K))
@@ -89,6 +85,6 @@ module _ (goes : Pattern → Bool) (marks : List ℕ) where
       go : (T (among q K) → T (goes q) → T (someMarked marks marks (suc j) (length K))) → T (same q p) ⊎ T (among q K)
           → T ((not (eqb (getD marks j 0) 0) && not (eqb (getD marks j 0) 0)) || someMarked marks marks (suc j) (length K))
       go rest (inl s) =
-          let t = subst T (sym (ap not (m .0) ∙ not-not (goes p))) (subst (λ (r : Pattern). T (goes r)) (same-says q p .0 s) b) in
+          let t = subst T (sym (ap not (m .0) ∙ Bool·not-not (goes p))) (subst (λ (r : Pattern). T (goes r)) (same-says q p .0 s) b) in
           or-l (not (eqb (getD marks j 0) 0) && not (eqb (getD marks j 0) 0)) (someMarked marks marks (suc j) (length K)) (both (not (eqb (getD marks j 0) 0)) (not (eqb (getD marks j 0) 0)) .1 (t, t))
       go rest (inr s) = or-r (not (eqb (getD marks j 0) 0) && not (eqb (getD marks j 0) 0)) (someMarked marks marks (suc j) (length K)) (rest s b)

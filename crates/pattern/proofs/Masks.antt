@@ -1,7 +1,7 @@
 -- The order of masks (every bit of a is one of b), the low ones, and the complement that the second notation means.
 use mathlib.Core.Path.{_≡_, refl, sym, ap, _∙_}
 use mathlib.Core.Logic.{_≢_}
-use mathlib.Core.Bool.{Bool, true, false, not, _&&_}
+use mathlib.Core.Bool.{Bool, false, not, _&&_, and-false}
 use mathlib.Core.List.{[], _∷_}
 use Prim.Native.Nat.{ℕ, zero, suc, _-_, _/_, _%_, _^_, _≤_, _<_, zero-le}
 use lib.Arith.{lt-of-le-ne}
@@ -79,10 +79,6 @@ complement-outside w m k l h =
     ∙ bit-and k (complement w m) (2 ^ w - 1)
     ∙ ap (λ (b : Bool). bit k (complement w m) && b) (bit-ones k w ∙ le-ltb k w h)
     ∙ and-false (bit k (complement w m))
-  where
-    and-false : (b : Bool) → b && false ≡ false
-    and-false true = refl
-    and-false false = refl
 
 -- So a filter of the second notation is that of the first with the complement for its mask.
 pub freeing-means : (w m v : ℕ) → m < 2 ^ w → freeingOf w m v ≡ caringOf w (complement w m) v

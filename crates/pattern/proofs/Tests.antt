@@ -1,7 +1,7 @@
 -- Tests and what they say: from a Bool that was computed to the fact, and back.
-use mathlib.Core.Path.{_≡_, refl, subst}
+use mathlib.Core.Path.{_≡_, refl, sym, ap, _∙_, subst}
 use mathlib.Core.Logic.{_↔_}
-use mathlib.Core.Bool.{Bool, true, false, _&&_}
+use mathlib.Core.Bool.{Bool, true, false, _&&_, and-false}
 use Prim.Native.Nat.{ℕ}
 use lib.Dec.{T, eqb, eqb-refl}
 
@@ -17,6 +17,11 @@ iff-eq true true f g = refl
 iff-eq true false f g = absurd (f tt)
 iff-eq false true f g = absurd (g tt)
 iff-eq false false f g = refl
+
+-- Two tests that are equal where a third passes are equal beside it.
+pub beside : (a b s : Bool) → (s ≡ true → a ≡ b) → a && s ≡ b && s
+beside a b true e = ap (λ (x : Bool). x && true) (e refl)
+beside a b false e = and-false a ∙ sym (and-false b)
 
 -- What `a && b` gives on either branch of the code's test of a.
 pub and-passed : (a b : Bool) → T a → b ≡ a && b

@@ -1,7 +1,7 @@
 -- Containment and common part of patterns, as equations of masks and as what they say of headers.
 use mathlib.Core.Path.{_≡_, sym, ap, _∙_}
 use mathlib.Core.Logic.{_↔_, _≢_}
-use mathlib.Core.Bool.{Bool, true, _&&_}
+use mathlib.Core.Bool.{Bool, true, _&&_, and-true}
 use mathlib.Core.List.{List, [], _∷_}
 use Prim.Native.Nat.{ℕ, _-_, _<_, _^_}
 use native.Mathlib.Nat.{lt-of-le-of-lt}
@@ -9,8 +9,8 @@ use lib.Dec.{T, eqb, eqb→eq}
 use lib.Bits.{bitAnd, bitOr, bitXor, and-comm, and-le-r, and-zero-r, or-lt, xor-lt}
 use Rattle.pattern.specs.declared.Pattern.{Pattern}
 use Rattle.pattern.specs.Filters.{hits, within, agree, common, headerOf, allFree}
-use Rattle.pattern.proofs.Tests.{eq→eqb, both, iff-eq}
-use Rattle.pattern.proofs.Digits.{Eqn, _∩_, _∪_, _⊻_, _≐_, by-bits}
+use Rattle.pattern.proofs.Tests.{eq→eqb, both, iff-eq, beside}
+use Rattle.pattern.proofs.Digits.{bit, bit-ext, bit-and, Eqn, _∩_, _∪_, _⊻_, _≐_, by-bits}
 use Rattle.pattern.proofs.Masks.{x0, x1, x2, x3, x4, sub-lt, low-ones}
 
 -- p's value has no one at a free bit
@@ -29,6 +29,13 @@ within-says p q = (
 
 pub hits-says : (p : Pattern) (h : ℕ) → T (hits p h) ↔ (bitAnd h (p .care) ≡ p .value)
 hits-says p h = (λ t. eqb→eq (bitAnd h (p .care)) (p .value) t, λ e. eq→eqb e)
+
+-- Header h matches exactly when h and the value agree at every cared bit.
+pub hits-agrees : (p : Pattern) → Fit p → (h : ℕ) → T (hits p h) ↔ ((k : ℕ) → bit k (p .care) ≡ true → bit k h ≡ bit k (p .value))
+hits-agrees p fit h = (
+  λ t k c. sym (and-true (bit k h)) ∙ ap (λ (b : Bool). bit k h && b) (sym c) ∙ sym (bit-and k h (p .care)) ∙ ap (bit k) (hits-says p h .0 t),
+  λ e. hits-says p h .1 (bit-ext (bitAnd h (p .care)) (p .value) (λ k. bit-and k h (p .care) ∙ beside (bit k h) (bit k (p .value)) (bit k (p .care)) (e k) ∙ sym (bit-and k (p .value) (p .care)) ∙ ap (bit k) fit)),
+)
 
 -- ---- containment
 

@@ -1,6 +1,6 @@
 -- Going round within n hops is going round.
 use mathlib.Core.Path.{_≡_, refl, sym, _∙_, ap}
-use mathlib.Core.Bool.{Bool, true, false, _||_, true≢false}
+use mathlib.Core.Bool.{Bool, true, false, _||_, or-true, true≢false}
 use Prim.Native.Nat.{ℕ, zero, suc, _+_, _-_, _*_, _≤_, _<_}
 use native.Mathlib.Nat.{suc-add, zero-add, zero-mul, suc-mul, add-comm, le-mul-of-pos-right, sub-zero}
 use native.Mathlib.Decide.{decLt}
@@ -51,10 +51,6 @@ module _ (f : ℕ → ℕ) where
   back-of v c zero r = absurd (omega arith)
   back-of v c (suc k) r = go (r .0) (r .1) (r .2) (r .3) (back-of v (f c) k)
     where
-      or-true : (b : Bool) → b || true ≡ true
-      or-true true = refl
-      or-true false = refl
-
       go : (j : ℕ) → 1 ≤ j → j ≤ suc k → hops f j c ≡ v → (Back v (f c) k → backIn f v (f c) k ≡ true) → eqb (f c) v || backIn f v (f c) k ≡ true
       go zero p q e rec = absurd (omega arith)
       go (suc zero) p q e rec = ap (λ b. b || backIn f v (f c) k) (eq-eqb (f c) v e)
