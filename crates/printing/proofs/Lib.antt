@@ -4,5 +4,4 @@ pub mod Numbers
 pub mod Letters
 pub mod Nodes
 pub mod Lines
-pub mod Examples
 pub mod Meaning

@@ -1,4 +1,4 @@
--- What the printing functions ask of their callers.
+-- What the printing functions ask of their callers. Serves the proofs.
 use Prim.Native.Nat.{_≤_}
 use mathlib.Core.Path.{_≡_}
 use lib.ListN.{length}

@@ -1,3 +1,4 @@
--- What the program needs of Judge's answer.
+-- What the program needs of Judge's answer, and what it prints.
 pub mod Answer
 pub mod Printed
+pub mod Examples

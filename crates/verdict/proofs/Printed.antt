@@ -1,21 +1,68 @@
--- Paper 01, "The printed verdict", of a file that is judged: the three counts, the class count, one line for each class of the class list in its order, and the verdict.
-use Prim.Native.Nat.{ℕ, _-_, _≤_}
+-- Paper 01, "The printed verdict": of a file that is judged, the three counts, the class count, one line for each class of the class list in its order, and the verdict with all nodes of the cycle; of a refusal, one line.
+use Prim.Native.Nat.{ℕ, _-_, _≤_, _<_}
 use mathlib.Core.Bool.{Bool, false, cond}
 use mathlib.Core.List.{List, [], _∷_, _++_, map}
-use mathlib.Core.Path.{_≡_, ap, _∙_}
-use borrow.Author.Tests.{le-leb}
-use lib.ListN.{length}
+use mathlib.Core.Path.{_≡_, refl, ap, ap₂, _∙_}
+use native.Mathlib.Omega.{arith}
+use borrow.Author.Tests.{le-leb, le-ltb}
+use lib.ListN.{length, getD, drop, replicate}
+use Rattle.pattern.specs.declared.Pattern.{Pattern}
 use Rattle.reading.specs.Network.{Network, rulesOf}
 use Rattle.reading.specs.File.{Parsed, accepted, parse}
+use Rattle.reading.proofs.Demand1.{accepted-is-bounded}
 use Rattle.classes.specs.Classes.{Entry, careAt, valueAt, sizeOf}
 use Rattle.classes.proofs.Laid.{after, laid-split}
 use Rattle.rounds.specs.Rounds.{cycleBytes}
+use Rattle.rounds.proofs.Cycle.{live}
+use Rattle.judge.specs.declared.Verdict.{Verdict}
+use Rattle.judge.specs.declared.Verdict.the-variants.{Free, Loop}
+use Rattle.judge.specs.declared.JudgeAnswer.{JudgeAnswer}
 use Rattle.judge.specs.declared.JudgeAnswer.the-variants.{Refused, Judged}
-use Rattle.judge.specs.Forwarding.{nodesOf}
+use Rattle.judge.specs.Forwarding.{nodesOf, hop, queryOf}
 use Rattle.judge.specs.Verdicts.{verdictOf, cycleIn}
 use Rattle.judge.specs.Judging.{Lent, lentOf, Judgement, judgement, written, tooShort, classesOf, judgedOf, onParsed, judgeOf}
-use Rattle.printing.specs.Lines.{countsLine, classesLine, classLine, verdictLine, classLines, lines}
+use Rattle.judge.proofs.Demand2.{cycle-says}
+use Rattle.printing.specs.Text.{word, decimal, headerLetters}
+use Rattle.printing.specs.Lines.{refusedLine, countsLine, classesLine, classLine, nodes, verdictLine, classLines, lines, joined}
+use Rattle.printing.proofs.Nodes.{nodes-none, nodes-filled, nodes-only, nodes-all}
 use Rattle.printing.proofs.Meaning.{class-list-lines}
+
+-- ---- the cycle's nodes
+
+-- The bytes of a cycle show its nodes, and nothing of what stands after them.
+pub shown-nodes : (L old : List ℕ) → length old ≡ 64 → nodes (cycleBytes L old) ≡ nodes L
+shown-nodes L old e =
+    nodes-only L (replicate (64 - length L) 255 ++ drop 64 old)
+    (nodes-filled (64 - length L) (drop 64 old) (nodes-none old 64 (omega arith)))
+
+shown-verdict : (w : ℕ) (v : Verdict) (L old : List ℕ) → length old ≡ 64 → verdictLine w v (cycleBytes L old) ≡ verdictLine w v L
+shown-verdict w Free L old e = refl
+shown-verdict w (Loop h) L old e = ap (λ (t : List ℕ). word "loop " ++ headerLetters w h ++ word " cycle" ++ t ++ word "\n") (shown-nodes L old e)
+
+module _ (net : Network) where
+  ends-stay : (query : Pattern) (v : ℕ) → nodesOf net ≤ v → nodesOf net ≤ hop net query v
+  unfolding hop
+  ends-stay query v h = rw (le-ltb v (nodesOf net) h) h
+
+  -- Each is a node of the network ..
+  cycle-nodes : (v : Verdict) → verdictOf net ≡ v → (i : ℕ) → i < length (cycleIn net v) → getD (cycleIn net v) i 0 < nodesOf net
+  unfolding cycleIn
+  cycle-nodes Free e i h = absurd (omega arith)
+  cycle-nodes (Loop g) e i h =
+      let c = cycle-says net g e in
+      omega (arith, c .follows i h, live (hop net (queryOf net g)) (nodesOf net) (ends-stay (queryOf net g)) (c .first) (c .node) (c .on-cycle) i)
+
+  -- .. so that none is taken for 255: all are shown, each after a blank.
+  pub shown-cycle : (file : List ℕ) → parse file ≡ accepted net
+      → nodes (cycleIn net (verdictOf net)) ≡ joined (map (λ (v : ℕ). word " " ++ decimal v) (cycleIn net (verdictOf net)))
+  shown-cycle file e = nodes-all (cycleIn net (verdictOf net)) (λ i h. omega (arith, cycle-nodes (verdictOf net) refl i h, accepted-is-bounded file net e .most-nodes))
+
+-- ---- the lines
+
+-- A refusal prints one line only.
+pub refused-line : (file : List ℕ) (old : Lent) (number place : ℕ) → judgeOf file old .answer ≡ Refused number place
+    → lines (judgeOf file old .answer) (judgeOf file old .lent) ≡ refusedLine number place ∷ []
+refused-line file old number place e = ap (λ (a : JudgeAnswer). lines a (judgeOf file old .lent)) e
 
 module _ (file : List ℕ) (old : Lent) (net : Network) (long : tooShort old ≡ false) (e : parse file ≡ accepted net) (few : length (classesOf net) ≤ 512) where
   judged : judgeOf file old ≡ judgement (Judged (net .width) (nodesOf net) (length (rulesOf net)) (length (classesOf net)) (verdictOf net)) (written (classesOf net) (cycleIn net (verdictOf net)) old)
@@ -25,20 +72,22 @@ module _ (file : List ℕ) (old : Lent) (net : Network) (long : tooShort old ≡
       ∙ ap (λ (p : Parsed). onParsed p old) e
       ∙ simp (le-leb (length (classesOf net)) 512 few)
 
-  pub printed-lines : lines (judgeOf file old .answer) (judgeOf file old .lent)
+  pub printed-lines : length (old .cycle) ≡ 64
+      → lines (judgeOf file old .answer) (judgeOf file old .lent)
       ≡ countsLine (net .width) (nodesOf net) (length (rulesOf net))
       ∷ classesLine (length (classesOf net))
       ∷ (map (λ (k : Entry). classLine (net .width) (k .pat) (k .size)) (classesOf net)
-      ++ (verdictLine (net .width) (verdictOf net) (cycleBytes (cycleIn net (verdictOf net)) (old .cycle)) ∷ []))
-  printed-lines =
+      ++ (verdictLine (net .width) (verdictOf net) (cycleIn net (verdictOf net)) ∷ []))
+  printed-lines whole =
       let L = classesOf net in
       ap (λ (j : Judgement). lines (j .answer) (j .lent)) judged
-      ∙ ap
-      (λ (rest : List (List ℕ)). countsLine (net .width) (nodesOf net) (length (rulesOf net))
+      ∙ ap₂
+      (λ (rest : List (List ℕ)) (last : List ℕ). countsLine (net .width) (nodesOf net) (length (rulesOf net))
       ∷ classesLine (length L)
-      ∷ (rest ++ (verdictLine (net .width) (verdictOf net) (cycleBytes (cycleIn net (verdictOf net)) (old .cycle)) ∷ [])))
+      ∷ (rest ++ (last ∷ [])))
       (regrouped L ∙ class-list-lines (λ (k : Entry). k .pat) (λ (k : Entry). k .size) (net .width) L
       (after L (old .cares)) (after L (old .values)) (after L (old .sizes)) (cycleBytes (cycleIn net (verdictOf net)) (old .cycle)))
+      (shown-verdict (net .width) (verdictOf net) (cycleIn net (verdictOf net)) (old .cycle) whole)
     where
       regrouped : (L : List Entry)
           → classLines (net .width) (written L (cycleIn net (verdictOf net)) old) 0 (length L)

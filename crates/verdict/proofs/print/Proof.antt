@@ -1,4 +1,4 @@
--- `verdict::print` meets its contract. The invariant: the buffer has its 300 bytes, and k lines have been written.
+-- `verdict::print` meets its contract. The invariant: the buffer has its 300 bytes, and k is no more than the number of lines.
 use Prim.Native.Nat.{_-_, _≤_}
 use mathlib.Core.Path.{_≡_, refl, sym, _∙_}
 use native.Mathlib.Omega.{arith}
