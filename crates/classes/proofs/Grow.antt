@@ -5,7 +5,6 @@ use Prim.Native.Nat.{ℕ, zero, suc, _+_, _-_, _^_, _≤_, _<_}
 use native.Mathlib.Nat.{le-of-suc-le, sub-zero}
 use native.Mathlib.Numerals.{add-one}
 use native.Mathlib.Omega.{arith}
-use lib.Bits.{bitAnd}
 use lib.Pow.{pow-pos}
 use lib.ListN.{length}
 use Rattle.pattern.specs.declared.Pattern.{Pattern}
@@ -14,7 +13,7 @@ use Rattle.pattern.proofs.Size.{count-ext}
 use Rattle.classes.specs.Classes.{patOf, same, entry, classList, patternAt, patternsFrom, AllWellFormed}
 use Rattle.classes.specs.Steps.{takenIn, Sound}
 use Rattle.classes.proofs.Counts.{count-same}
-use Rattle.classes.proofs.Headers.{pat-none, care-snoc}
+use Rattle.classes.proofs.Headers.{pat-none, care-pat, care-snoc}
 use Rattle.classes.proofs.Tally.{list-unique, list-same}
 use Rattle.classes.proofs.Number.{list-prefix}
 use Rattle.classes.proofs.Sift.{sift-sound}
@@ -36,7 +35,7 @@ list-start w =
 pub list-snoc : (w : ℕ) (fs : List Pattern) (f : Pattern) → classList w (f ∷ fs) ≡ classList w (fs ++ f ∷ [])
 list-snoc w fs f =
     list-same w (f ∷ fs) (fs ++ f ∷ [])
-    (λ h l. ap (λ (x : ℕ). let r : Pattern = record { care = x; value = bitAnd h x } in r) (sym (care-snoc fs f h)))
+    (λ h l. care-pat (f ∷ fs) (fs ++ f ∷ []) h (sym (care-snoc fs f h)))
 
 -- ---- the filters in two lists
 

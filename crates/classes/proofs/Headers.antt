@@ -9,10 +9,10 @@ use lib.Bits.{bitAnd, bitOr, and-zero-r, or-lt}
 use lib.Pow.{pow-pos}
 use Rattle.pattern.specs.declared.Pattern.{Pattern}
 use Rattle.pattern.specs.Filters.{hits, allFree, common}
-use Rattle.pattern.proofs.Tests.{both, iff-eq}
+use Rattle.pattern.proofs.Tests.{both, iff-eq, beq-says}
 use Rattle.pattern.proofs.Digits.{Ex, var, none, _∩_, _∪_, _≐_, by-bits}
 use Rattle.pattern.proofs.Masks.{x0, x1, x2, x3, x4, sub-antisym}
-use Rattle.pattern.proofs.Within.{Fit, Within, within-says, hits-says, Agree, common-hits}
+use Rattle.pattern.proofs.Within.{pair, Fit, Within, within-says, hits-says, Agree, common-hits}
 use Rattle.classes.specs.Classes.{careOf, patOf, same, among, AllWellFormed}
 use Rattle.classes.proofs.Order.{or-r, same-says, among-first}
 use Rattle.classes.proofs.Partition.{Closed, hits-own}
@@ -23,16 +23,20 @@ x5 = var 5
 -- ---- no filter, and one more
 
 pub pat-none : (h : ℕ) → patOf [] h ≡ allFree
-pat-none h = λ i. record { care = 0; value = and-zero-r h i }
+pat-none h = pair refl (and-zero-r h)
+
+-- A header's pattern is given by its cared bits.
+pub care-pat : (fs gs : List Pattern) (h : ℕ) → careOf fs h ≡ careOf gs h → patOf fs h ≡ patOf gs h
+care-pat fs gs h e = pair e (ap (bitAnd h) e)
+
+more : (f : Pattern) (fs : List Pattern) (h : ℕ) (b : Bool) → hits f h ≡ b → careOf (f ∷ fs) h ≡ cond b (bitOr (careOf fs h) (f .care)) (careOf fs h)
+more f fs h b e = ap (λ (b : Bool). cond b (bitOr (careOf fs h) (f .care)) (careOf fs h)) e
 
 pub pat-miss : (f : Pattern) (fs : List Pattern) (h : ℕ) → hits f h ≡ false → patOf (f ∷ fs) h ≡ patOf fs h
-pat-miss f fs h e =
-    ap (λ (b : Bool). let c = cond b (bitOr (careOf fs h) (f .care)) (careOf fs h) in let r : Pattern = record { care = c; value = bitAnd h c } in r) e
+pat-miss f fs h e = care-pat (f ∷ fs) fs h (more f fs h false e)
 
 pub pat-hit : (f : Pattern) (fs : List Pattern) (h : ℕ) → hits f h ≡ true → patOf (f ∷ fs) h ≡ common (patOf fs h) f
-pat-hit f fs h e =
-    ap (λ (b : Bool). let c = cond b (bitOr (careOf fs h) (f .care)) (careOf fs h) in let r : Pattern = record { care = c; value = bitAnd h c } in r) e
-    ∙ (λ i. record { care = bitOr (careOf fs h) (f .care); value = values i })
+pat-hit f fs h e = pair (more f fs h true e) (ap (bitAnd h) (more f fs h true e) ∙ values)
   where
     values : bitAnd h (bitOr (careOf fs h) (f .care)) ≡ bitOr (bitAnd h (careOf fs h)) (f .value)
     values =
@@ -112,12 +116,10 @@ care-least (f ∷ fs) h m a = go (care-least fs h m (λ q k t. a q (or-r (same q
     go ih false e = ih
 
 pub pat-set : (fs gs : List Pattern) → ((f : Pattern) → T (among f fs) ↔ T (among f gs)) → (h : ℕ) → patOf fs h ≡ patOf gs h
-pat-set fs gs e h = ap (λ (c : ℕ). let r : Pattern = record { care = c; value = bitAnd h c } in r) cares
-  where
-    cares : careOf fs h ≡ careOf gs h
-    cares =
-        sub-antisym (careOf fs h) (careOf gs h) (care-least fs h (careOf gs h) (λ f m t. care-has gs f h (e f .0 m) t))
-        (care-least gs h (careOf fs h) (λ f m t. care-has fs f h (e f .1 m) t))
+pat-set fs gs e h =
+    care-pat fs gs h
+    (sub-antisym (careOf fs h) (careOf gs h) (care-least fs h (careOf gs h) (λ f m t. care-has gs f h (e f .0 m) t))
+    (care-least gs h (careOf fs h) (λ f m t. care-has fs f h (e f .1 m) t)))
 
 pub care-snoc : (fs : List Pattern) (f : Pattern) (h : ℕ) → careOf (fs ++ f ∷ []) h ≡ careOf (f ∷ fs) h
 care-snoc [] f h = refl
@@ -137,12 +139,6 @@ care-snoc (g ∷ fs) f h = ap (λ (x : ℕ). cond (hits g h) (bitOr x (g .care))
 abbrev pub alike : List Pattern → ℕ → ℕ → Bool
 alike [] h k = true
 alike (f ∷ fs) h k = Bool·beq (hits f h) (hits f k) && alike fs h k
-
-beq-says : (a b : Bool) → T (Bool·beq a b) ↔ (a ≡ b)
-beq-says true true = (λ t. refl, λ e. tt)
-beq-says true false = (λ t. absurd t, λ e. subst T e tt)
-beq-says false true = (λ t. absurd t, λ e. subst T (sym e) tt)
-beq-says false false = (λ t. refl, λ e. tt)
 
 alike-care : (fs : List Pattern) (h k : ℕ) → T (alike fs h k) → careOf fs h ≡ careOf fs k
 alike-care [] h k t = refl
@@ -168,7 +164,7 @@ alike-value (f ∷ fs) h k t =
     go e false false bc p q = e
 
 pub alike-pat : (fs : List Pattern) (h k : ℕ) → T (alike fs h k) → patOf fs h ≡ patOf fs k
-alike-pat fs h k t = λ i. record { care = alike-care fs h k t i; value = alike-value fs h k t i }
+alike-pat fs h k t = pair (alike-care fs h k t) (alike-value fs h k t)
 
 -- one half: what matches h matches k
 pat-hits : (fs : List Pattern) (h k : ℕ) → patOf fs h ≡ patOf fs k → (f : Pattern) → T (among f fs) → T (hits f h) → T (hits f k)

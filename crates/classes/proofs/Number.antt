@@ -11,7 +11,6 @@ use lib.ListN.{length}
 use Rattle.pattern.specs.declared.Pattern.{Pattern}
 use Rattle.pattern.specs.Filters.{hits, count}
 use Rattle.pattern.proofs.Tests.{eq→eqb, both, iff-eq, beside}
-use Rattle.pattern.proofs.Digits.{none}
 use Rattle.pattern.proofs.Size.{ind, count-ext}
 use Rattle.classes.specs.Classes.{patOf, same, Entry, classList, among}
 use Rattle.classes.proofs.Counts.{count-mono, first-count}

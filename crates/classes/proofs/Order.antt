@@ -9,6 +9,7 @@ use native.Mathlib.Omega.{arith}
 use lib.Dec.{T, not-T, eqb, ltb, eqb→eq, ltb→lt, lt→ltb}
 use Rattle.pattern.specs.declared.Pattern.{Pattern}
 use Rattle.pattern.proofs.Tests.{eq→eqb, both}
+use Rattle.pattern.proofs.Within.{pair}
 use Rattle.classes.specs.Classes.{same, before, among}
 
 pub or-l : (a b : Bool) → T a → T (a || b)
@@ -39,9 +40,6 @@ same-says p q = (
       pair (eqb→eq (p .care) (q .care) (s .0)) (eqb→eq (p .value) (q .value) (s .1)),
   λ e. both (eqb (p .care) (q .care)) (eqb (p .value) (q .value)) .1 (eq→eqb (ap (λ (r : Pattern). r .care) e), eq→eqb (ap (λ (r : Pattern). r .value) e)),
 )
-  where
-    pair : p .care ≡ q .care → p .value ≡ q .value → p ≡ q
-    pair e f = λ i. record { care = e i; value = f i }
 
 pub same-refl : (p : Pattern) → T (same p p)
 same-refl p = same-says p p .1 refl
@@ -87,9 +85,6 @@ before-total p q f g = go (decLt (q .care) (p .care)) (decLt (p .care) (q .care)
     go (no a) (no b) (yes c) d = before-from q p (inr (omega arith))
     go (no a) (no b) (no c) (yes d) = absurd (f (before-from p q (inr (omega arith))))
     go (no a) (no b) (no c) (no d) = absurd (g (pair (omega arith) (omega arith)))
-      where
-        pair : p .care ≡ q .care → p .value ≡ q .value → p ≡ q
-        pair e f = λ i. record { care = e i; value = f i }
 
 pub before-asym : (p q : Pattern) → T (before p q) → T (before q p) → ⊥
 before-asym p q s t = go (before-says p q s) (before-says q p t)

@@ -6,14 +6,14 @@ use mathlib.Core.Bool.{Bool, true, false, not, _&&_, _||_, cond}
 use mathlib.Core.List.{List, [], _∷_}
 use Prim.Native.Nat.{ℕ, _+_, _-_, _^_, _≤_, _<_}
 use native.Mathlib.Omega.{arith}
-use lib.Dec.{T, T-not, eqb→eq}
-use lib.Bits.{bitAnd, bitOr, or-lt}
+use lib.Dec.{T, T-not}
+use lib.Bits.{bitOr, or-lt}
 use Rattle.pattern.specs.declared.Pattern.{Pattern}
 use Rattle.pattern.specs.Filters.{hits, within, agree, common, held, WellFormed, count}
-use Rattle.pattern.proofs.Tests.{eq→eqb, both}
-use Rattle.pattern.proofs.Digits.{none, _∩_, _∪_, _≐_, by-bits}
+use Rattle.pattern.proofs.Tests.{both}
+use Rattle.pattern.proofs.Digits.{_∩_, _∪_, _≐_, by-bits}
 use Rattle.pattern.proofs.Masks.{x0, x1, x2, x3, sub-lt}
-use Rattle.pattern.proofs.Within.{Within, within-says, hits-says, within-lt, Agree, common-hits, common-fit}
+use Rattle.pattern.proofs.Within.{pair, Within, within-says, hits-says, within-lt, Agree, agree-says, common-hits, common-fit}
 use Rattle.pattern.proofs.Size.{ind, count-ext, count-fixed, pattern-size}
 use Rattle.classes.specs.Classes.{patOf, same, before, Entry, classList, among, AllWellFormed}
 use Rattle.classes.specs.Steps.{sumIf, inside, moved, cut, sift, Sound}
@@ -123,16 +123,12 @@ module _ (w : ℕ) (f : Pattern) (fs : List Pattern) (gf : WellFormed w f) (g : 
             inn false b u v = absurd u
 
             wi : Within (e .pat) f
-            wi = within-says (e .pat) f .0 (inn (agree (e .pat) f) (within (e .pat) f) (agree-from ag) n)
-              where
-                agree-from : Agree (e .pat) f → T (agree (e .pat) f)
-                agree-from a = eq→eqb a
+            wi = within-says (e .pat) f .0 (inn (agree (e .pat) f) (within (e .pat) f) (agree-says (e .pat) f .1 ag) n)
 
             whole : common (e .pat) f ≡ e .pat
-            whole = λ i. record {
-              care = by-bits (e .pat .care ∷ f .care ∷ []) ((x0 ∩ x1 ≐ x1) ∷ []) (x0 ∪ x1 ≐ x0) tt (wi .0) i;
-              value = by-bits (e .pat .value ∷ f .care ∷ f .value ∷ []) ((x0 ∩ x1 ≐ x2) ∷ []) (x0 ∪ x2 ≐ x0) tt (wi .1) i;
-            }
+            whole =
+                pair (by-bits (e .pat .care ∷ f .care ∷ []) ((x0 ∩ x1 ≐ x1) ∷ []) (x0 ∪ x1 ≐ x0) tt (wi .0))
+                (by-bits (e .pat .value ∷ f .care ∷ f .value ∷ []) ((x0 ∩ x1 ≐ x2) ∷ []) (x0 ∪ x2 ≐ x0) tt (wi .1))
 
     keeps-count : cut (e .pat) f ≡ false → (t : Pattern → Bool)
         → count (λ h. same (patOf fs h) (e .pat) && t (patOf (f ∷ fs) h)) (2 ^ w) ≡ cond (t (e .pat)) (e .size) 0
@@ -149,9 +145,7 @@ module _ (w : ℕ) (f : Pattern) (fs : List Pattern) (gf : WellFormed w f) (g : 
     -- p is cut by f
     module _ (c : T (cut (e .pat) f)) where
       ag : Agree (e .pat) f
-      ag =
-          eqb→eq (bitAnd (e .pat .value) (bitAnd (e .pat .care) (f .care))) (bitAnd (f .value) (bitAnd (e .pat .care) (f .care)))
-          (both (agree (e .pat) f) (not (within (e .pat) f)) .0 c .0)
+      ag = agree-says (e .pat) f .0 (both (agree (e .pat) f) (not (within (e .pat) f)) .0 c .0)
 
       out : T (within (e .pat) f) → ⊥
       out t = T-not (within (e .pat) f) (both (agree (e .pat) f) (not (within (e .pat) f)) .0 c .1) t

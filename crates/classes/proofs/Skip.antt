@@ -1,5 +1,5 @@
 -- A filter that is the common part of the earlier filters that contain it changes no header's pattern, and is passed over.
-use mathlib.Core.Path.{_≡_, refl, sym, ap, subst}
+use mathlib.Core.Path.{_≡_, refl, sym, subst}
 use mathlib.Core.Bool.{Bool, true, false, cond}
 use mathlib.Core.List.{List, [], _∷_}
 use Prim.Native.Nat.{ℕ}
@@ -12,7 +12,7 @@ use Rattle.pattern.proofs.Masks.{x0, x1, x2, x3}
 use Rattle.pattern.proofs.Within.{within-says, within-hits}
 use Rattle.classes.specs.Classes.{careOf, classList, AllWellFormed}
 use Rattle.classes.specs.Steps.{sift, cover, takenIn}
-use Rattle.classes.proofs.Headers.{care-grows, care-head}
+use Rattle.classes.proofs.Headers.{care-pat, care-grows, care-head}
 use Rattle.classes.proofs.Tally.{list-same}
 use Rattle.classes.proofs.Sift.{sift-is}
 
@@ -43,7 +43,7 @@ covered-care f fs e h = go (hits f h) refl
 -- A filter that is the common part of those that it lies within changes no class.
 pub covered-list : (w : ℕ) (f : Pattern) (fs : List Pattern) → cover f fs ≡ f .care → classList w (f ∷ fs) ≡ classList w fs
 covered-list w f fs e =
-    list-same w (f ∷ fs) fs (λ h _. ap (λ (c : ℕ). let r : Pattern = record { care = c; value = bitAnd h c } in r) (covered-care f fs e h))
+    list-same w (f ∷ fs) fs (λ h _. care-pat (f ∷ fs) fs h (covered-care f fs e h))
 
 -- Taken in or passed over, the next filter gives the next class list.
 pub taken-is : (w : ℕ) (f : Pattern) (fs : List Pattern) → WellFormed w f → AllWellFormed w fs → takenIn w f fs (classList w fs) ≡ classList w (f ∷ fs)

@@ -10,6 +10,7 @@ use lib.ListN.{getD, drop, length}
 use lib.Seq.{getD-drop, drop-drop}
 use Rattle.pattern.specs.declared.Pattern.{Pattern}
 use Rattle.pattern.specs.Filters.{hits, WellFormed}
+use Rattle.pattern.proofs.Within.{pair}
 use Rattle.classes.specs.Classes.{Entry, patOf, classList, patternsFrom, AllWellFormed}
 use Rattle.classes.proofs.Tally.{pats, list-has}
 use Rattle.least.specs.Steps.{recount, Enough, someOf, search, markOf}
@@ -36,9 +37,6 @@ patterns-stand (p ∷ K) cs vs r s j e f =
     ap₂ (λ (q : Pattern) (L : List Pattern). q ∷ L)
     (pair (head-at cs (map (λ p. p .care) K ++ r) (p .care) j e) (head-at vs (map (λ p. p .value) K ++ s) (p .value) j f))
     (patterns-stand K cs vs r s (suc j) (tail-at cs (map (λ p. p .care) K ++ r) (p .care) j e) (tail-at vs (map (λ p. p .value) K ++ s) (p .value) j f))
-  where
-    pair : {x y u v : ℕ} → x ≡ u → y ≡ v → (let p : Pattern = record { care = x; value = y } in p) ≡ record { care = u; value = v }
-    pair g h = λ i. record { care = g i; value = h i }
 
 pub marks-are : (goes : Pattern → Bool) (K : List Pattern) (marks r : List ℕ) (j : ℕ) → drop j marks ≡ map (markOf goes) K ++ r → Marked goes marks j K
 marks-are goes [] marks r j e = tt

@@ -1,9 +1,9 @@
 -- The least header that passes a test, found from its high bits down; and the pattern of a prefix.
-use mathlib.Core.Path.{_≡_, refl, sym, ap, _∙_, subst}
+use mathlib.Core.Path.{_≡_, refl, sym, ap, ap₂, _∙_, subst}
 use mathlib.Core.Logic.{_↔_}
 use mathlib.Core.Bool.{Bool, true, false, cond}
 use Prim.Native.Nat.{ℕ, zero, suc, _+_, _-_, _*_, _/_, _%_, _^_, _≤_, _<_, zero-le}
-use native.Mathlib.Nat.{mod-eq-of-lt, div-one, div-eq-of-lt, eq-of-mul-eq-mul-right, pow-suc, mul-assoc, add-mul, one-mul, mul-lt-mul-of-pos-right}
+use native.Mathlib.Nat.{sub-self, mod-eq-of-lt, div-one, div-eq-of-lt, eq-of-mul-eq-mul-right, pow-suc, mul-assoc, add-mul, one-mul, mul-lt-mul-of-pos-right}
 use native.Mathlib.Numerals.{add-one}
 use native.Mathlib.Omega.{arith}
 use lib.Dec.{T}
@@ -11,7 +11,7 @@ use lib.Pow.{pow-add, pow-pos, pow-mono, shr-lt, shr-shr, shl-shr}
 use lib.Bits.{bitAnd, and-high}
 use Rattle.pattern.specs.declared.Pattern.{Pattern}
 use Rattle.pattern.specs.Filters.{hits, WellFormed}
-use Rattle.pattern.proofs.Within.{hits-says}
+use Rattle.pattern.proofs.Within.{pair, hits-says}
 use Rattle.least.specs.Steps.{prefix, search}
 
 -- ---- the pattern of a prefix
@@ -117,62 +117,96 @@ module _ (some : Pattern → Bool) (t : ℕ → Bool) (w : ℕ) (tells : Tells s
       same : s .0 .0 ≡ search some w w 0
       same = sym (div-one (s .0 .0)) ∙ s .0 .3
 
--- ---- the search, a bit at a time: with `left` bits to go the pattern has the care mask 2 ^ w - 2 ^ left and the value m * 2 ^ left
+-- ---- the search, a bit at a time
 
-pub search-end : (some : Pattern → Bool) (w left m value : ℕ) → left ≤ 0 → value ≡ m * 2 ^ left → search some w left m ≡ value
+-- With `left` bits to go, the bits found are those of a prefix m, and the search from m is the whole search.
+pub record Found (some : Pattern → Bool) (w left care value : ℕ) : Type 0 where
+  pub upto : left ≤ w
+  pub cares : care ≡ 2 ^ w - 2 ^ left
+  pub m : ℕ
+  pub small : m < 2 ^ (w - left)
+  pub values : value ≡ m * 2 ^ left
+  pub same : search some w w 0 ≡ search some w left m
+
+pub found-none : (some : Pattern → Bool) (w : ℕ) → Found some w w 0 0
+found-none some w = record { upto = omega arith; cares = sym (sub-self (2 ^ w)); m = 0; small = pow-pos (w - w); values = omega arith; same = refl }
+
+pub found-all : {some : Pattern → Bool} {w left care value : ℕ} → Found some w left care value → left ≤ 0 → value ≡ search some w w 0
 unfolding search
-search-end some w left m value h e =
-    ap (λ (k : ℕ). search some w k m) none ∙ sym (e ∙ ap (λ (k : ℕ). m * 2 ^ k) none ∙ omega arith)
+found-all {some} {w} {left} s h =
+    s .values ∙ ap (λ (k : ℕ). s .m * 2 ^ k) none ∙ omega arith ∙ sym (s .same ∙ ap (λ (k : ℕ). search some w k (s .m)) none)
   where
     none : left ≡ 0
     none = omega arith
 
-module _ (w k left m care value : ℕ) (next : k + 1 ≡ left) (le : left ≤ w) (cares : care ≡ 2 ^ w - 2 ^ left) (values : value ≡ m * 2 ^ left) (small : m < 2 ^ (w - left)) where
-  twice : 2 ^ left ≡ 2 * 2 ^ k
-  twice = ap (λ (x : ℕ). 2 ^ x) (sym next ∙ add-one k) ∙ omega (arith, pow-suc 2 k)
+-- The next bit: the prefix with a 0 there is asked.
+module _ {some : Pattern → Bool} {w left care value bit : ℕ} (s : Found some w left care value) (more : 0 < left) (is : bit ≡ 2 ^ (left - 1)) where
+  up : left ≡ suc (left - 1)
+  up = omega arith
 
-  wide : 2 ^ (w - k) ≡ 2 * 2 ^ (w - left)
-  wide = ap (λ (x : ℕ). 2 ^ x) more ∙ omega (arith, pow-suc 2 (w - left))
+  twice : 2 ^ left ≡ 2 * 2 ^ (left - 1)
+  twice = ap (λ (x : ℕ). 2 ^ x) up ∙ omega (arith, pow-suc 2 (left - 1))
+
+  next-care : care + bit ≡ 2 ^ w - 2 ^ (left - 1)
+  next-care = omega (arith, s .cares, is, twice, pow-mono {i = left} {j = w} (s .upto))
+
+  next-value : value ≡ s .m * 2 * 2 ^ (left - 1)
+  next-value = s .values ∙ ap (λ (x : ℕ). s .m * x) twice ∙ sym (mul-assoc (s .m) 2 (2 ^ (left - 1)))
+
+  high-small : s .m * 2 + 1 < 2 ^ (w - (left - 1))
+  high-small = omega (arith, s .small, ap (λ (x : ℕ). 2 ^ x) wider, pow-suc 2 (w - left))
     where
-      more : w - k ≡ suc (w - left)
-      more = omega arith
+      wider : w - (left - 1) ≡ suc (w - left)
+      wider = omega (arith, s .upto)
 
-  pub next-care : care + 2 ^ k ≡ 2 ^ w - 2 ^ k
-  next-care = omega (arith, cares, twice, pow-mono {i = left} {j = w} le)
+  high-value : value + bit ≡ (s .m * 2 + 1) * 2 ^ (left - 1)
+  high-value =
+      ap₂ (λ (x y : ℕ). x + y) next-value (is ∙ sym (one-mul (2 ^ (left - 1)))) ∙ sym (add-mul (s .m * 2) 1 (2 ^ (left - 1)))
 
-  pub next-value : value ≡ m * 2 * 2 ^ k
-  next-value = values ∙ ap (λ (x : ℕ). m * x) twice ∙ sym (mul-assoc m 2 (2 ^ k))
+  pub care-fits : care + bit < 2 ^ w
+  care-fits = omega (arith, next-care, pow-pos (left - 1), pow-pos w)
 
-  pub next-low : m * 2 < 2 ^ (w - k)
-  next-low = omega (arith, small, wide)
-
-  pub next-high : m * 2 + 1 < 2 ^ (w - k)
-  next-high = omega (arith, small, wide)
-
-  pub high-value : value + 2 ^ k ≡ (m * 2 + 1) * 2 ^ k
-  high-value = ap (λ (x : ℕ). x + 2 ^ k) next-value ∙ sym (add-mul (m * 2) 1 (2 ^ k) ∙ ap (λ (x : ℕ). m * 2 * 2 ^ k + x) (one-mul (2 ^ k)))
-
-  pub high-lt : value + 2 ^ k < 2 ^ w
-  high-lt =
+  pub value-fits : value + bit < 2 ^ w
+  value-fits =
       subst (λ (x : ℕ). x < 2 ^ w) (sym high-value)
-      (subst (λ (x : ℕ). (m * 2 + 1) * 2 ^ k < 2 ^ x) (omega arith)
-      (subst (λ (x : ℕ). (m * 2 + 1) * 2 ^ k < x) (sym (pow-add 2 (w - k) k)) (mul-lt-mul-of-pos-right next-high (pow-pos k))))
+      (subst (λ (x : ℕ). (s .m * 2 + 1) * 2 ^ (left - 1) < 2 ^ x) all
+      (subst (λ (x : ℕ). (s .m * 2 + 1) * 2 ^ (left - 1) < x) (sym (pow-add 2 (w - (left - 1)) (left - 1))) (mul-lt-mul-of-pos-right high-small (pow-pos (left - 1)))))
+    where
+      all : w - (left - 1) + (left - 1) ≡ w
+      all = omega (arith, s .upto)
 
-  pub is-prefix : (r : Pattern) → r .care ≡ care + 2 ^ k → r .value ≡ value → r ≡ prefix w k (m * 2)
-  is-prefix r e f = λ i. record { care = (e ∙ next-care) i; value = (f ∙ next-value) i }
+  abbrev pub asked : Pattern
+  asked = record { care = care + bit; value = value }
 
-  pub is-formed : (r : Pattern) → r .care ≡ care + 2 ^ k → r .value ≡ value → WellFormed w r
-  is-formed r e f = subst (WellFormed w) (sym (is-prefix r e f)) (prefix-formed w k (m * 2) (omega arith) next-low)
+  is-prefix : asked ≡ prefix w (left - 1) (s .m * 2)
+  is-prefix = pair next-care next-value
 
-  module _ (some : Pattern → Bool) (r : Pattern) (e : r .care ≡ care + 2 ^ k) (f : r .value ≡ value) where
-    step : (b : Bool) → b ≡ some r → search some w left m ≡ cond b (search some w k (m * 2)) (search some w k (m * 2 + 1))
-    unfolding search
-    step b t =
-        ap (λ (x : ℕ). search some w x m) (sym next ∙ add-one k)
-        ∙ ap (λ (b : Bool). cond b (search some w k (m * 2)) (search some w k (m * 2 + 1))) (ap some (sym (is-prefix r e f)) ∙ sym t)
+  pub asked-formed : WellFormed w asked
+  asked-formed = subst (WellFormed w) (sym is-prefix) (prefix-formed w (left - 1) (s .m * 2) (omega (arith, s .upto)) (omega (arith, high-small)))
 
-    pub search-low : true ≡ some r → search some w left m ≡ search some w k (m * 2)
-    search-low t = step true t
+  step : (b : Bool) → b ≡ some asked → search some w w 0 ≡ cond b (search some w (left - 1) (s .m * 2)) (search some w (left - 1) (s .m * 2 + 1))
+  unfolding search
+  step b t =
+      s .same
+      ∙ ap (λ (x : ℕ). search some w x (s .m)) up
+      ∙ ap (λ (b : Bool). cond b (search some w (left - 1) (s .m * 2)) (search some w (left - 1) (s .m * 2 + 1))) (ap some (sym is-prefix) ∙ sym t)
 
-    pub search-high : false ≡ some r → search some w left m ≡ search some w k (m * 2 + 1)
-    search-high t = step false t
+  pub found-low : true ≡ some asked → Found some w (left - 1) (care + bit) value
+  found-low t = record {
+    upto = omega (arith, s .upto);
+    cares = next-care;
+    m = s .m * 2;
+    small = omega (arith, high-small);
+    values = next-value;
+    same = step true t;
+  }
+
+  pub found-high : false ≡ some asked → Found some w (left - 1) (care + bit) (value + bit)
+  found-high t = record {
+    upto = omega (arith, s .upto);
+    cares = next-care;
+    m = s .m * 2 + 1;
+    small = high-small;
+    values = high-value;
+    same = step false t;
+  }

@@ -51,9 +51,6 @@ module _ (w : ℕ) (P : Pattern) (cs vs : List ℕ) (n : ℕ) where
       rest s = s .2
 
   module _ (ns : List ℕ) (j k : ℕ) (jk : j + 1 ≡ k) (kn : k ≤ n) (enough : Enough w P (patternsFrom cs vs 0 n)) (done : Done ns k) where
-    p : Pattern
-    p = patternAt cs vs j
-
     below : j < n
     below = omega arith
 

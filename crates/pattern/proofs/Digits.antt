@@ -10,6 +10,7 @@ use lib.Dec.{T}
 use lib.ListN.{length, getD}
 use lib.Arith.{bin-ind, digits-div, digits-mod}
 use lib.Bits.{bitAnd, bitOr, bitXor, differ, and-step, or-step, xor-step}
+use Rattle.pattern.proofs.Tests.{both, beq-says}
 
 -- ---- the digit at place k
 
@@ -154,18 +155,10 @@ abbrev pub always : ℕ → (List Bool → Bool) → Bool
 always zero f = f []
 always (suc n) f = always n (λ l. f (true ∷ l)) && always n (λ l. f (false ∷ l))
 
-and-l : (a b : Bool) → T (a && b) → T a
-and-l true b t = tt
-and-l false b t = t
-
-and-r : (a b : Bool) → T (a && b) → T b
-and-r true b t = t
-and-r false b t = absurd t
-
 at-choice : (f : List Bool → Bool) (l : List Bool) → T (always (length l) f) → T (f l)
 at-choice f [] t = t
-at-choice f (true ∷ l) t = at-choice (λ r. f (true ∷ r)) l (and-l (always (length l) (λ r. f (true ∷ r))) (always (length l) (λ r. f (false ∷ r))) t)
-at-choice f (false ∷ l) t = at-choice (λ r. f (false ∷ r)) l (and-r (always (length l) (λ r. f (true ∷ r))) (always (length l) (λ r. f (false ∷ r))) t)
+at-choice f (true ∷ l) t = at-choice (λ r. f (true ∷ r)) l (both (always (length l) (λ r. f (true ∷ r))) (always (length l) (λ r. f (false ∷ r))) .0 t .0)
+at-choice f (false ∷ l) t = at-choice (λ r. f (false ∷ r)) l (both (always (length l) (λ r. f (true ∷ r))) (always (length l) (λ r. f (false ∷ r))) .0 t .1)
 
 digits : ℕ → List ℕ → List Bool
 digits k [] = []
@@ -189,20 +182,10 @@ bit-value k env (a ∩ b) = bit-and k (value env a) (value env b) ∙ ap₂ _&&_
 bit-value k env (a ∪ b) = bit-or k (value env a) (value env b) ∙ ap₂ _||_ (bit-value k env a) (bit-value k env b)
 bit-value k env (a ⊻ b) = bit-xor k (value env a) (value env b) ∙ ap₂ odd (bit-value k env a) (bit-value k env b)
 
-beq-eq : (a b : Bool) → T (Bool·beq a b) → a ≡ b
-beq-eq true true t = refl
-beq-eq true false t = absurd t
-beq-eq false true t = absurd t
-beq-eq false false t = refl
-
-beq-refl : (a : Bool) → T (Bool·beq a a)
-beq-refl true = tt
-beq-refl false = tt
-
 -- a premise holds at each digit
 premise : (k : ℕ) (env : List ℕ) (h : Eqn) → Holds env h → T (holds (digits k env) h)
 premise k env (a ≐ b) e =
-    subst (λ (x : Bool). T (Bool·beq (truth (digits k env) a) x)) (sym (bit-value k env a) ∙ ap (bit k) e ∙ bit-value k env b) (beq-refl (truth (digits k env) a))
+    beq-says (truth (digits k env) a) (truth (digits k env) b) .1 (sym (bit-value k env a) ∙ ap (bit k) e ∙ bit-value k env b)
 
 drop-premise : (a b : Bool) → T a → T (not a || b) → T b
 drop-premise true b p t = t
@@ -210,7 +193,7 @@ drop-premise false b p t = absurd p
 
 conclude : (env : List ℕ) (hs : List Eqn) (g : Eqn) → ((k : ℕ) → T (follows hs g (digits k env))) → Follows env hs g
 conclude env [] (a ≐ b) t =
-    bit-ext (value env a) (value env b) (λ k. bit-value k env a ∙ beq-eq (truth (digits k env) a) (truth (digits k env) b) (t k) ∙ sym (bit-value k env b))
+    bit-ext (value env a) (value env b) (λ k. bit-value k env a ∙ beq-says (truth (digits k env) a) (truth (digits k env) b) .0 (t k) ∙ sym (bit-value k env b))
 conclude env (h ∷ hs) g t =
     λ e. conclude env hs g (λ k. drop-premise (holds (digits k env) h) (follows hs g (digits k env)) (premise k env h e) (t k))
 

@@ -1,7 +1,7 @@
 -- Tests and what they say: from a Bool that was computed to the fact, and back.
 use mathlib.Core.Path.{_≡_, refl, sym, ap, _∙_, subst}
 use mathlib.Core.Logic.{_↔_}
-use mathlib.Core.Bool.{Bool, true, false, _&&_, and-false}
+use mathlib.Core.Bool.{Bool, true, false, _&&_, and-false, Bool·beq}
 use Prim.Native.Nat.{ℕ}
 use lib.Dec.{T, eqb, eqb-refl}
 
@@ -17,6 +17,12 @@ iff-eq true true f g = refl
 iff-eq true false f g = absurd (f tt)
 iff-eq false true f g = absurd (g tt)
 iff-eq false false f g = refl
+
+pub beq-says : (a b : Bool) → T (Bool·beq a b) ↔ (a ≡ b)
+beq-says true true = (λ t. refl, λ e. tt)
+beq-says true false = (λ t. absurd t, λ e. subst T e tt)
+beq-says false true = (λ t. absurd t, λ e. subst T (sym e) tt)
+beq-says false false = (λ t. refl, λ e. tt)
 
 -- Two tests that are equal where a third passes are equal beside it.
 pub beside : (a b s : Bool) → (s ≡ true → a ≡ b) → a && s ≡ b && s

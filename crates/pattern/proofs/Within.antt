@@ -13,6 +13,10 @@ use Rattle.pattern.proofs.Tests.{eq→eqb, both, iff-eq, beside}
 use Rattle.pattern.proofs.Digits.{bit, bit-ext, bit-and, Eqn, _∩_, _∪_, _⊻_, _≐_, by-bits}
 use Rattle.pattern.proofs.Masks.{x0, x1, x2, x3, x4, sub-lt, low-ones}
 
+-- two patterns are equal when their care masks and values are
+pub pair : {p q : Pattern} → p .care ≡ q .care → p .value ≡ q .value → p ≡ q
+pair e f = λ i. record { care = e i; value = f i }
+
 -- p's value has no one at a free bit
 abbrev pub Fit : Pattern → Type 0
 Fit p = bitAnd (p .value) (p .care) ≡ p .value
@@ -85,7 +89,7 @@ within-trans p q r i j = (
 )
 
 pub within-antisym : (p q : Pattern) → Fit p → Within p q → Within q p → p ≡ q
-within-antisym p q fp i j = λ k. record { care = cares k; value = values k }
+within-antisym p q fp i j = pair cares values
   where
     cares : p .care ≡ q .care
     cares = by-bits (p .care ∷ q .care ∷ []) ((x0 ∩ x1 ≐ x1) ∷ (x1 ∩ x0 ≐ x0) ∷ []) (x0 ≐ x1) tt (i .0) (j .0)
@@ -109,7 +113,7 @@ all-free-hits h = hits-says allFree h .1 (and-zero-r h)
 pub within-lt : (p q : Pattern) → Fit p → Within p q → p ≢ q → q .care < p .care
 within-lt p q fit i f =
     sub-lt (q .care) (p .care) (by-bits (p .care ∷ q .care ∷ []) ((x0 ∩ x1 ≐ x1) ∷ []) (x1 ∩ x0 ≐ x1) tt (i .0))
-    (λ e. f (λ k. record { care = sym e k; value = values e k }))
+    (λ e. f (pair (sym e) (values e)))
   where
     values : q .care ≡ p .care → p .value ≡ q .value
     values e = sym fit ∙ ap (bitAnd (p .value)) (sym e) ∙ i .1

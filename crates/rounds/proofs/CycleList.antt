@@ -7,8 +7,7 @@ use native.Mathlib.Omega.{arith}
 use lib.ListN.{length, getD}
 use lib.Dec.{eqb}
 use borrow.Author.Tests.{eqb-true, eqb-false}
-use Rattle.rounds.specs.Rounds.{hops, backIn, returnsTo, cycleFrom}
-use Rattle.rounds.specs.Rounds.{cycleOf}
+use Rattle.rounds.specs.Rounds.{hops, backIn, returnsTo, cycleFrom, cycleOf}
 use Rattle.rounds.proofs.Cycle.{hops-f, hops-add}
 
 module _ (f : ℕ → ℕ) where

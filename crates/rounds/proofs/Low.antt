@@ -6,8 +6,7 @@ use native.Mathlib.Nat.{sub-zero}
 use native.Mathlib.Numerals.{add-one}
 use native.Mathlib.Decide.{ℕ-discrete}
 use native.Mathlib.Omega.{arith}
-use Rattle.rounds.specs.Rounds.{OnCycle, GoesRound, returnsTo}
-use Rattle.rounds.specs.Rounds.{lowFrom, lowest}
+use Rattle.rounds.specs.Rounds.{OnCycle, GoesRound, returnsTo, lowFrom, lowest}
 use Rattle.rounds.specs.declared.Lowest.{Lowest}
 use Rattle.rounds.specs.declared.Lowest.the-variants.{Node, Nowhere}
 use Rattle.rounds.proofs.Cycle.{fuel, returns-on, on-returns}

@@ -9,8 +9,7 @@ use lib.ListN.{length, take, drop, set, replicate, take-append-drop, length-set}
 use lib.Seq.{take-suc-set, drop-set-lt, drop-drop, length-take-le, drop-append-add, take-at}
 use borrow.Author.Tests.{eq-eqb, ne-eqb}
 use Rattle.rounds.proofs.Cycle.{fuel}
-use Rattle.rounds.specs.Rounds.{cycleFrom}
-use Rattle.rounds.specs.Rounds.{cycleOf}
+use Rattle.rounds.specs.Rounds.{cycleFrom, cycleOf}
 
 -- the element c stored at i: the list in front of `rest` grows by c
 pub put-more : (l rest : List ℕ) (i c : ℕ) → i < length l → take i l ++ (c ∷ rest) ≡ take (i + 1) (set l i c) ++ rest

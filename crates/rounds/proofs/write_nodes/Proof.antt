@@ -6,9 +6,8 @@ use Prim.Native.Nat.{ℕ, _≤_, _<_, _-_, _+_}
 use native.Mathlib.Omega.{arith}
 use borrow.Author.Needs.{needs}
 use lib.ListN.{length, take, drop, length-set}
-use Rattle.rounds.specs.Rounds.{backIn, cycleFrom}
+use Rattle.rounds.specs.Rounds.{backIn, cycleFrom, cycleOf}
 use Rattle.rounds.specs.Rows.{nextOf}
-use Rattle.rounds.specs.Rounds.{cycleOf}
 use Rattle.rounds.proofs.Cycle.{back-first, back-miss, back-live, back-none, row-next, row-ends}
 use Rattle.rounds.proofs.Written.{put-more, put-last, drop-more, cyc-first, cyc-last, cyc-more}
 use Rattle.rounds.proofs.write_nodes.Statement.{statement}

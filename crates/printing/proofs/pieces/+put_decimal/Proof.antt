@@ -32,108 +32,53 @@ abbrev put-decimal-below : ℕ → In 1 put-decimal-kinds.ps
 put-decimal-below t =
     and 1 put-decimal-kinds.ps (falls 1 put-decimal-kinds.ps _<_ μ-put-decimal t) put-decimal.Pre
 
-put-decimal-cast-put-byte : (t : ℕ) → put-decimal-lts.Need-cast-put-byte (
-  put-byte-reads.Asked,
-  put-byte-reads.Learnt,
-  put-decimal-below t,
-  put-decimal.Post,
-) (put-decimal-at t) put-decimal.Post
+-- What is known of the calls: of its own, at a number below t.
+abbrev claims : ℕ → put-decimal-lts.Claims
+claims t = (put-byte-reads.Asked, put-byte-reads.Learnt, put-decimal-below t, put-decimal.Post)
+
+put-decimal-cast-put-byte : (t : ℕ) → put-decimal-lts.Need-cast-put-byte (claims t) (put-decimal-at t) put-decimal.Post
 put-decimal-cast-put-byte t c = omega arith
 
-put-decimal-add-put-byte : (t : ℕ) → put-decimal-lts.Need-add-put-byte (
-  put-byte-reads.Asked,
-  put-byte-reads.Learnt,
-  put-decimal-below t,
-  put-decimal.Post,
-) (put-decimal-at t) put-decimal.Post
+put-decimal-add-put-byte : (t : ℕ) → put-decimal-lts.Need-add-put-byte (claims t) (put-decimal-at t) put-decimal.Post
 put-decimal-add-put-byte t c = omega arith
 
-put-decimal-put-byte-requires : (t : ℕ) → put-decimal-lts.Need-put-byte-requires (
-  put-byte-reads.Asked,
-  put-byte-reads.Learnt,
-  put-decimal-below t,
-  put-decimal.Post,
-) (put-decimal-at t) put-decimal.Post
+put-decimal-put-byte-requires : (t : ℕ) → put-decimal-lts.Need-put-byte-requires (claims t) (put-decimal-at t) put-decimal.Post
 put-decimal-put-byte-requires t c κs = omega (arith, c .before .before .before .pre .1, ap length (decimal-one (c .before .before .before .args .n) (c .before .if1 .taken)))
 
-put-decimal-same-length : (t : ℕ) → put-decimal-lts.Need-same-length (
-  put-byte-reads.Asked,
-  put-byte-reads.Learnt,
-  put-decimal-below t,
-  put-decimal.Post,
-) (put-decimal-at t) put-decimal.Post
+put-decimal-same-length : (t : ℕ) → put-decimal-lts.Need-same-length (claims t) (put-decimal-at t) put-decimal.Post
 put-decimal-same-length t c = put-length (c .before .before .put-byte .ensures)
 
-put-decimal-returns : (t : ℕ) → put-decimal-lts.Need-returns (
-  put-byte-reads.Asked,
-  put-byte-reads.Learnt,
-  put-decimal-below t,
-  put-decimal.Post,
-) (put-decimal-at t) put-decimal.Post
+put-decimal-returns : (t : ℕ) → put-decimal-lts.Need-returns (claims t) (put-decimal-at t) put-decimal.Post
 put-decimal-returns t c = put-as (sym (decimal-one (c .before .before .before .before .before .before .args .n) (c .before .before .before .before .if1 .taken))) (c .before .before .put-byte .ensures)
 
-put-decimal-put-decimal-requires : (t : ℕ) → put-decimal-lts.Need-put-decimal-requires (
-  put-byte-reads.Asked,
-  put-byte-reads.Learnt,
-  put-decimal-below t,
-  put-decimal.Post,
-) (put-decimal-at t) put-decimal.Post
+put-decimal-put-decimal-requires : (t : ℕ) → put-decimal-lts.Need-put-decimal-requires (claims t) (put-decimal-at t) put-decimal.Post
 put-decimal-put-decimal-requires t c κs =
     let n = c .before .before .before .args .n in
     let big = c .before .if1 .left in
     (omega (arith, c .before .before .before .pre .0), omega (arith, c .before .before .before .pre .1, longer n big))
 
-put-decimal-cast-put-byte-2 : (t : ℕ) → put-decimal-lts.Need-cast-put-byte-2 (
-  put-byte-reads.Asked,
-  put-byte-reads.Learnt,
-  put-decimal-below t,
-  put-decimal.Post,
-) (put-decimal-at t) put-decimal.Post
+put-decimal-cast-put-byte-2 : (t : ℕ) → put-decimal-lts.Need-cast-put-byte-2 (claims t) (put-decimal-at t) put-decimal.Post
 put-decimal-cast-put-byte-2 t c = omega arith
 
-put-decimal-add-put-byte-2 : (t : ℕ) → put-decimal-lts.Need-add-put-byte-2 (
-  put-byte-reads.Asked,
-  put-byte-reads.Learnt,
-  put-decimal-below t,
-  put-decimal.Post,
-) (put-decimal-at t) put-decimal.Post
+put-decimal-add-put-byte-2 : (t : ℕ) → put-decimal-lts.Need-add-put-byte-2 (claims t) (put-decimal-at t) put-decimal.Post
 put-decimal-add-put-byte-2 t c = omega arith
 
-put-decimal-put-byte-requires-2 : (t : ℕ) → put-decimal-lts.Need-put-byte-requires-2 (
-  put-byte-reads.Asked,
-  put-byte-reads.Learnt,
-  put-decimal-below t,
-  put-decimal.Post,
-) (put-decimal-at t) put-decimal.Post
+put-decimal-put-byte-requires-2 : (t : ℕ) → put-decimal-lts.Need-put-byte-requires-2 (claims t) (put-decimal-at t) put-decimal.Post
 put-decimal-put-byte-requires-2 t c κs =
     let p = c .before .before .before .put-decimal .ensures in
     omega (arith, c .before .before .before .before .before .before .before .pre .1, longer (c .before .before .before .before .before .before .before .args .n) (c .before .before .before .before .before .if1 .left), p .end, put-length p)
 
-put-decimal-same-length-2 : (t : ℕ) → put-decimal-lts.Need-same-length-2 (
-  put-byte-reads.Asked,
-  put-byte-reads.Learnt,
-  put-decimal-below t,
-  put-decimal.Post,
-) (put-decimal-at t) put-decimal.Post
+put-decimal-same-length-2 : (t : ℕ) → put-decimal-lts.Need-same-length-2 (claims t) (put-decimal-at t) put-decimal.Post
 put-decimal-same-length-2 t c = put-length (c .before .before .put-byte2 .ensures) ∙ put-length (c .before .before .before .before .before .before .put-decimal .ensures)
 
-put-decimal-returns-2 : (t : ℕ) → put-decimal-lts.Need-returns-2 (
-  put-byte-reads.Asked,
-  put-byte-reads.Learnt,
-  put-decimal-below t,
-  put-decimal.Post,
-) (put-decimal-at t) put-decimal.Post
+put-decimal-returns-2 : (t : ℕ) → put-decimal-lts.Need-returns-2 (claims t) (put-decimal-at t) put-decimal.Post
 put-decimal-returns-2 t c =
     put-as (sym (decimal-more (c .before .before .before .before .before .before .before .before .before .before .args .n) (c .before .before .before .before .before .before .before .before .if1 .left)))
     (put-put (c .before .before .before .before .before .before .put-decimal .ensures) (c .before .before .put-byte2 .ensures))
 
 pub +put-decimal-spec : {M : Type 1} → statement M
-+put-decimal-spec = close μ-put-decimal λ t. put-decimal-lts.spec (
-  put-byte-reads.Asked,
-  put-byte-reads.Learnt,
-  put-decimal-below t,
-  put-decimal.Post,
-)
++put-decimal-spec = close μ-put-decimal λ t. put-decimal-lts.spec
+    (claims t)
     (put-decimal-at t)
     put-decimal.Post
     (put-decimal-cast-put-byte t)
