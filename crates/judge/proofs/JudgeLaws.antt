@@ -1,33 +1,23 @@
 -- Judge's answer and lists, case by case: too many classes, or the class list with the verdict.
 use mathlib.Core.Path.{_≡_, refl, sym, _∙_, ap, ap₂, subst}
 use mathlib.Core.Bool.{Bool, true, false, _||_, cond, true≢false}
-use mathlib.Core.List.{List, [], _∷_}
-use Prim.Native.Nat.{ℕ, _^_, _≤_}
+use mathlib.Core.List.{List, []}
+use Prim.Native.Nat.{ℕ, _≤_}
 use native.Mathlib.Omega.{arith}
 use lib.Dec.{leb, ltb}
 use lib.ListN.{length}
-use lib.Pow.{pow-pos}
 use borrow.Author.Tests.{leb-true, ltb-false}
 use Rattle.pattern.specs.declared.Pattern.{Pattern}
 use Rattle.reading.specs.Network.{Network, rulesOf, filters}
 use Rattle.reading.specs.File.{Parsed, accepted, parse}
 use Rattle.classes.specs.Classes.{Entry, classList, listed, laid, careAt, valueAt, AllWellFormed}
-use Rattle.classes.specs.Steps.{sumIf}
-use Rattle.classes.proofs.Tally.{list-total}
+use Rattle.classes.proofs.Demand3.{some-class}
 use Rattle.judge.specs.declared.Verdict.{Verdict}
 use Rattle.judge.specs.declared.JudgeAnswer.the-variants.{Refused, Judged}
 use Rattle.judge.specs.Forwarding.{nodesOf}
 use Rattle.judge.specs.Verdicts.{verdictOf, cycleIn}
 use Rattle.judge.specs.Judging.{Lent, Judgement, judgement, shortBy, tooShort, written, classesOf, judgedOf, onParsed, judgeOf}
 use Rattle.judge.specs.Steps.{Listed}
-
--- there is at least one class
-some-class : (w : ℕ) (fs : List Pattern) → length (classList w fs) ≡ 0 → ⊥
-some-class w fs e = go (classList w fs) e (list-total w fs)
-  where
-    go : (L : List Entry) → length L ≡ 0 → sumIf (λ p. true) L ≡ 2 ^ w → ⊥
-    go [] e t = omega (arith, t, pow-pos w)
-    go (x ∷ L) e t = omega (arith, e)
 
 module _ (w : ℕ) (fs : List Pattern) where
   -- nothing is listed where there are more than 512 classes ..
@@ -37,7 +27,7 @@ module _ (w : ℕ) (fs : List Pattern) where
     where
       go : (b : Bool) → leb (length (classList w fs)) 512 ≡ b → length (cond b (classList w fs) []) ≡ 0
           → (leb (length (classList w fs)) 512 ≡ false) × (cond b (classList w fs) [] ≡ [])
-      go true t e = absurd (some-class w fs e)
+      go true t e = absurd (omega (arith, some-class w fs, e))
       go false t e = (t, refl)
 
   -- .. and else the class list is

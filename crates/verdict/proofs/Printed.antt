@@ -2,7 +2,7 @@
 use Prim.Native.Nat.{ℕ, _-_, _≤_, _<_}
 use mathlib.Core.Bool.{Bool, false, cond}
 use mathlib.Core.List.{List, [], _∷_, _++_, map}
-use mathlib.Core.Path.{_≡_, refl, ap, ap₂, _∙_}
+use mathlib.Core.Path.{_≡_, refl, sym, ap, ap₂, _∙_}
 use native.Mathlib.Omega.{arith}
 use borrow.Author.Tests.{le-leb, le-ltb}
 use lib.ListN.{length, getD, drop, replicate}
@@ -21,6 +21,7 @@ use Rattle.judge.specs.declared.JudgeAnswer.the-variants.{Refused, Judged}
 use Rattle.judge.specs.Forwarding.{nodesOf, hop, queryOf}
 use Rattle.judge.specs.Verdicts.{verdictOf, cycleIn}
 use Rattle.judge.specs.Judging.{Lent, lentOf, Judgement, judgement, written, tooShort, classesOf, judgedOf, onParsed, judgeOf}
+use Rattle.judge.proofs.JudgeLaws.{fine, judge-long}
 use Rattle.judge.proofs.Demand2.{cycle-says}
 use Rattle.printing.specs.Text.{word, decimal, headerLetters}
 use Rattle.printing.specs.Lines.{refusedLine, countsLine, classesLine, classLine, nodes, verdictLine, classLines, lines, joined}
@@ -65,12 +66,9 @@ pub refused-line : (file : List ℕ) (old : Lent) (number place : ℕ) → judge
 refused-line file old number place e = ap (λ (a : JudgeAnswer). lines a (judgeOf file old .lent)) e
 
 module _ (file : List ℕ) (old : Lent) (net : Network) (long : tooShort old ≡ false) (e : parse file ≡ accepted net) (few : length (classesOf net) ≤ 512) where
-  judged : judgeOf file old ≡ judgement (Judged (net .width) (nodesOf net) (length (rulesOf net)) (length (classesOf net)) (verdictOf net)) (written (classesOf net) (cycleIn net (verdictOf net)) old)
-  unfolding judgeOf judgedOf
-  judged =
-      ap (λ (b : Bool). cond b (judgement (Refused 13 0) old) (onParsed (parse file) old)) long
-      ∙ ap (λ (p : Parsed). onParsed p old) e
-      ∙ simp (le-leb (length (classesOf net)) 512 few)
+  judged : judgeOf file old ≡ fine net old
+  unfolding judgedOf
+  judged = judge-long file old (sym long) ∙ ap (λ (p : Parsed). onParsed p old) e ∙ simp (le-leb (length (classesOf net)) 512 few)
 
   pub printed-lines : length (old .cycle) ≡ 64
       → lines (judgeOf file old .answer) (judgeOf file old .lent)
