@@ -55,7 +55,8 @@ fn count_at(
     if all == 0 {
         return 0;
     }
-    all - taking::within_sum(cares, values, counts, i + 1, n, p)
+    let later = taking::within_sum(cares, values, counts, i + 1, n, p);
+    all - later
 }
 
 // The number of headers of each of the first `n` classes under the prefix, the last class first.
@@ -111,12 +112,12 @@ pub fn any_marked(marks: &[u8], n: usize) -> bool
     requires { do ⌜ n ≤ (← ⟦marks.len()⟧) ⌝ }
     ensures { λ r. ⌜ r ≡ someMarked (now (marks .entry)) (now (marks .entry)) 0 n ⌝ }
 {
-    let mut j = 0;
-    while j < n {
-        if marks[j] != 0 {
+    let mut i = 0;
+    while i < n {
+        if marks[i] != 0 {
             return true;
         }
-        j = j + 1;
+        i = i + 1;
     }
     false
 }

@@ -9,10 +9,10 @@ use Rattle.least.proofs.any_marked.Statement.{statement}
 use Rattle.least.proofs.any_marked.Tie as tie
 
 abbrev Inv-loop : tie.InvT-loop
-Inv-loop marks n j₀ j = (j ≤ n) × (someMarked marks marks 0 n ≡ someMarked marks marks j (n - j))
+Inv-loop marks n i₀ i = (i ≤ n) × (someMarked marks marks 0 n ≡ someMarked marks marks i (n - i))
 
 abbrev μ-loop : tie.MeasureT-loop
-μ-loop marks n j₀ j = n - j
+μ-loop marks n i₀ i = n - i
 
 loop-holds : tie.Need-loop-holds Inv-loop μ-loop
 loop-holds c = let s = c in (omega arith, some-first (s .args .marks .now) (s .args .marks .now) (s .args .n))
@@ -24,10 +24,10 @@ returns : tie.Need-returns Inv-loop μ-loop
 returns c =
     let m = c .before .before .before .before .args .marks .now in
     let l = c .before .before .before .loop in
-    sym (l .inv .1 ∙ some-hit m m (c .before .before .before .before .args .n) (l .j) (c .before .before .loop-test .taken) (is-marked (getD m (l .j) 0) (c .if1 .taken)))
+    sym (l .inv .1 ∙ some-hit m m (c .before .before .before .before .args .n) (l .i) (c .before .before .loop-test .taken) (is-marked (getD m (l .i) 0) (c .if1 .taken)))
 
-add-j : tie.Need-add-j Inv-loop μ-loop
-add-j c = omega arith
+add-i : tie.Need-add-i Inv-loop μ-loop
+add-i c = omega arith
 
 loop-less : tie.Need-loop-less Inv-loop μ-loop
 loop-less c = omega arith
@@ -36,13 +36,13 @@ loop-again : tie.Need-loop-again Inv-loop μ-loop
 loop-again c =
     let m = c .before .before .before .before .args .marks .now in
     let l = c .before .before .before .loop in
-    (omega arith, l .inv .1 ∙ some-miss m m (c .before .before .before .before .args .n) (l .j) (c .before .before .loop-test .taken) (not-marked (getD m (l .j) 0) (c .if1 .left)))
+    (omega arith, l .inv .1 ∙ some-miss m m (c .before .before .before .before .args .n) (l .i) (c .before .before .loop-test .taken) (not-marked (getD m (l .i) 0) (c .if1 .left)))
 
 returns-2 : tie.Need-returns-2 Inv-loop μ-loop
 returns-2 c =
     let m = c .before .before .args .marks .now in
     let l = c .before .loop in
-    sym (l .inv .1 ∙ some-none m m (c .before .before .args .n) (l .j) (c .loop-test .left))
+    sym (l .inv .1 ∙ some-none m m (c .before .before .args .n) (l .i) (c .loop-test .left))
 
 pub any-marked-spec : {M : Type 1} → statement M
 any-marked-spec =
@@ -53,7 +53,7 @@ any-marked-spec =
     loop-holds
     shared-slice-read-if1
     returns
-    add-j
+    add-i
     loop-less
     loop-again
     returns-2)

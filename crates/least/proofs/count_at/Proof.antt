@@ -7,17 +7,17 @@ use Rattle.least.proofs.Turns.{shared-le}
 use Rattle.least.proofs.count_at.Statement.{statement}
 use Rattle.least.proofs.count_at.Tie as tie
 
-mul-t10 : tie.Need-mul-t10
-mul-t10 c = search needs
+mul-t11 : tie.Need-mul-t11
+mul-t11 c = search needs
 
-shared-slice-read-t12 : tie.Need-shared-slice-read-t12
-shared-slice-read-t12 c = search needs
+shared-slice-read-t13 : tie.Need-shared-slice-read-t13
+shared-slice-read-t13 c = search needs
 
-mul-t13 : tie.Need-mul-t13
-mul-t13 c = search needs
+mul-t14 : tie.Need-mul-t14
+mul-t14 c = search needs
 
-shared-slice-read-t15 : tie.Need-shared-slice-read-t15
-shared-slice-read-t15 c = search needs
+shared-slice-read-t16 : tie.Need-shared-slice-read-t16
+shared-slice-read-t16 c = search needs
 
 shared-size-requires : tie.Need-shared-size-requires
 shared-size-requires c κs = search needs
@@ -45,10 +45,10 @@ pub count-at-spec : {M : Type 1} → statement M
 count-at-spec =
     tie.close
     (tie.spec
-    mul-t10
-    shared-slice-read-t12
-    mul-t13
-    shared-slice-read-t15
+    mul-t11
+    shared-slice-read-t13
+    mul-t14
+    shared-slice-read-t16
     shared-size-requires
     returns
     add-within-sum
