@@ -6,7 +6,6 @@ use Prim.Native.Nat.{ℕ}
 use lib.ListN.{take}
 use Rattle.reading.specs.File.{Parsed}
 use Rattle.reading.proofs.Prefix.{parse-prefix}
-use Rattle.judge.specs.declared.JudgeAnswer.{JudgeAnswer}
 use Rattle.judge.specs.declared.JudgeAnswer.the-variants.{Refused}
 use Rattle.judge.specs.Judging.{Lent, lentOf, Judgement, judgement, tooShort, onParsed, judgeOf}
 

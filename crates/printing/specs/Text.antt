@@ -8,7 +8,7 @@ use lib.Dec.{eqb, ltb}
 use Rattle.pattern.specs.declared.Pattern.{Pattern}
 use Rattle.pattern.specs.Filters.{headerOf}
 
--- The bytes of a word.
+-- The bytes of a word, letter by letter. A text of one letter, as "*", stands for the letter too.
 abbrev pub word : String → List ℕ
 word end = []
 word (c then s) = code c ∷ word s

@@ -1,6 +1,6 @@
 -- Paper 01, "The printed verdict": of a file that is judged, the three counts, the class count, one line for each class of the class list in its order, and the verdict with all nodes of the cycle; of a refusal, one line.
 use Prim.Native.Nat.{ℕ, _-_, _≤_, _<_}
-use mathlib.Core.Bool.{Bool, false, cond}
+use mathlib.Core.Bool.{false}
 use mathlib.Core.List.{List, [], _∷_, _++_, map}
 use mathlib.Core.Path.{_≡_, refl, sym, ap, ap₂, _∙_}
 use native.Mathlib.Omega.{arith}
@@ -17,10 +17,10 @@ use Rattle.rounds.proofs.Cycle.{live}
 use Rattle.judge.specs.declared.Verdict.{Verdict}
 use Rattle.judge.specs.declared.Verdict.the-variants.{Free, Loop}
 use Rattle.judge.specs.declared.JudgeAnswer.{JudgeAnswer}
-use Rattle.judge.specs.declared.JudgeAnswer.the-variants.{Refused, Judged}
+use Rattle.judge.specs.declared.JudgeAnswer.the-variants.{Refused}
 use Rattle.judge.specs.Forwarding.{nodesOf, hop, queryOf}
 use Rattle.judge.specs.Verdicts.{verdictOf, cycleIn}
-use Rattle.judge.specs.Judging.{Lent, lentOf, Judgement, judgement, written, tooShort, classesOf, judgedOf, onParsed, judgeOf}
+use Rattle.judge.specs.Judging.{Lent, lentOf, Judgement, written, tooShort, classesOf, judgedOf, onParsed, judgeOf}
 use Rattle.judge.proofs.JudgeLaws.{fine, judge-long}
 use Rattle.judge.proofs.Demand2.{cycle-says}
 use Rattle.printing.specs.Text.{word, decimal, headerLetters}

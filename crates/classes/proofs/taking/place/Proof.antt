@@ -4,7 +4,6 @@ use Prim.Native.Nat.{ℕ, _-_, _≤_, _<_}
 use native.Mathlib.Omega.{arith}
 use lib.Dec.{T}
 use Rattle.classes.specs.Classes.{before, patternAt}
-use borrow.Author.Needs.{needs}
 use Rattle.classes.proofs.Rows.{passed-more}
 use Rattle.classes.proofs.taking.place.Statement.{statement}
 use Rattle.classes.proofs.taking.place.Tie as tie

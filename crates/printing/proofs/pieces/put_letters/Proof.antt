@@ -1,5 +1,5 @@
 -- `printing::pieces::put_letters` meets its contract. The invariant: the letters of the lower bits have still to be put.
-use Prim.Native.Nat.{_-_, _≤_, _<_}
+use Prim.Native.Nat.{_≤_, _<_}
 use native.Mathlib.Omega.{arith}
 use Rattle.printing.specs.Text.{letters}
 use Rattle.printing.proofs.Letters.{letters-length, letters-next, letters-none}

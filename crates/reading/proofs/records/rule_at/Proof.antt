@@ -1,7 +1,7 @@
 -- The rule record at a place.
 use native.Mathlib.Omega.{arith}
 use mathlib.Core.Path.{subst}
-use Prim.Native.Nat.{_+_, _-_, _<_}
+use Prim.Native.Nat.{_+_, _<_}
 use lib.ListN.{length}
 use Rattle.reading.specs.Code.{ruleBody}
 use Rattle.reading.specs.declared.records.Doing.{Doing}

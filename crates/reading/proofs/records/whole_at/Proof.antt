@@ -1,7 +1,7 @@
 -- The record of a case at a place.
 use native.Mathlib.Omega.{arith}
 use mathlib.Core.Path.{subst, _∙_}
-use Prim.Native.Nat.{_+_, _-_, _<_}
+use Prim.Native.Nat.{_+_, _<_}
 use lib.ListN.{length}
 use Rattle.reading.specs.Code.{Whole, wholeAt}
 use borrow.Author.Needs.{needs}
