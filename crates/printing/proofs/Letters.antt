@@ -1,5 +1,5 @@
 -- The letters of a pattern, one bit at a time.
-use Prim.Native.Nat.{ℕ, zero, suc, _-_, _≤_, _<_}
+use Prim.Native.Nat.{ℕ, zero, suc, _+_, _-_, _≤_, _<_}
 use mathlib.Core.List.{[], _∷_}
 use mathlib.Core.Path.{_≡_, refl, ap}
 use native.Mathlib.Omega.{arith}
@@ -12,13 +12,18 @@ unfolding letters
 letters-length zero p = refl
 letters-length (suc w) p = ap suc (letters-length w p)
 
--- The highest bit first.
-pub letters-next : (w : ℕ) (p : Pattern) → 0 < w → letters w p ≡ letter p (w - 1) ∷ letters (w - 1) p
-unfolding letters
-letters-next zero p h = absurd (omega arith)
-letters-next (suc w) p h = ap (λ (b : ℕ). letter p b ∷ letters b p) (omega arith)
+-- After k letters: the next bit down, or none.
+module _ (w k : ℕ) (p : Pattern) where
+  pub letters-next : k < w → letters (w - k) p ≡ letter p (w - (k + 1)) ∷ letters (w - (k + 1)) p
+  unfolding letters
+  letters-next h = ap (λ (b : ℕ). letters b p) one
+    where
+      one : w - k ≡ suc (w - (k + 1))
+      one = omega arith
 
-pub letters-none : (w : ℕ) (p : Pattern) → w ≤ 0 → letters w p ≡ []
-unfolding letters
-letters-none zero p h = refl
-letters-none (suc w) p h = absurd (omega arith)
+  pub letters-none : w ≤ k → letters (w - k) p ≡ []
+  unfolding letters
+  letters-none h = ap (λ (b : ℕ). letters b p) none
+    where
+      none : w - k ≡ 0
+      none = omega arith

@@ -54,16 +54,16 @@ fn letter(pattern: Pattern, bit: u8) -> u8
     b'0' + ((pattern.value >> bit) % 2) as u8
 }
 
-// The letters of a pattern, from the highest bit down.
+// The letters of a pattern, from the highest bit down: letter k, counted from 1, is that of bit `width - k`.
 pub(crate) fn put_letters(out: &mut [u8], at: usize, width: u8, pattern: Pattern) -> usize
     requires { ⌜ (width ≤ 32) × (at + width ≤ length (now out)) ⌝ }
     ensures { λ r. ⌜ Put (now (out .entry)) at (letters width pattern) (now (out .exit)) r ⌝ }
 {
     let mut next = at;
-    let mut bit = width;
-    while bit > 0 {
-        bit -= 1;
-        out[next] = letter(pattern, bit);
+    let mut k = 0;
+    while k < width {
+        k += 1;
+        out[next] = letter(pattern, width - k);
         next += 1;
     }
     next
