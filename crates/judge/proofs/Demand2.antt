@@ -52,7 +52,7 @@ pub record IsCycle (f : ℕ → ℕ) (n : ℕ) (nodes : List ℕ) : Type 0 where
 -- ---- the test of n hops says whether a query goes round with any number of hops
 
 module _ (net : Network) (query : Pattern) where
-  ends-stay : (v : ℕ) → nodesOf net ≤ v → nodesOf net ≤ hop net query v
+  pub ends-stay : (v : ℕ) → nodesOf net ≤ v → nodesOf net ≤ hop net query v
   unfolding hop
   ends-stay v h = rw (le-ltb v (nodesOf net) h) h
 

@@ -9,7 +9,7 @@ use records::Record;
 use steps::State;
 use steps::Step;
 ghost use mathlib.Core.Path.{_≡_};
-ghost use Prim.Native.Nat.{_+_, _-_, _≤_};
+ghost use Prim.Native.Nat.{_+_, _≤_};
 ghost use Rattle.reading.specs.Network.{act};
 ghost use Rattle.reading.specs.File.{readOf};
 ghost use Rattle.reading.specs.Arrays.{filled, caresOf, valuesOf, actionsOf, firstsOf, beginsOf, codeOf, rulesIn, foundAt, Fits};

@@ -4,9 +4,8 @@ use mathlib.Core.Bool.{false}
 use mathlib.Core.List.{List, [], _∷_, _++_, map}
 use mathlib.Core.Path.{_≡_, refl, sym, ap, ap₂, _∙_}
 use native.Mathlib.Omega.{arith}
-use borrow.Author.Tests.{le-leb, le-ltb}
+use borrow.Author.Tests.{le-leb}
 use lib.ListN.{length, getD, drop, replicate}
-use Rattle.pattern.specs.declared.Pattern.{Pattern}
 use Rattle.reading.specs.Network.{Network, rulesOf}
 use Rattle.reading.specs.File.{Parsed, accepted, parse}
 use Rattle.reading.proofs.Demand1.{accepted-is-bounded}
@@ -22,7 +21,7 @@ use Rattle.judge.specs.Forwarding.{nodesOf, hop, queryOf}
 use Rattle.judge.specs.Verdicts.{verdictOf, cycleIn}
 use Rattle.judge.specs.Judging.{Lent, lentOf, Judgement, written, tooShort, classesOf, judgedOf, onParsed, judgeOf}
 use Rattle.judge.proofs.JudgeLaws.{fine, judge-long}
-use Rattle.judge.proofs.Demand2.{cycle-says}
+use Rattle.judge.proofs.Demand2.{ends-stay, cycle-says}
 use Rattle.printing.specs.Text.{word, decimal, headerLetters}
 use Rattle.printing.specs.Lines.{refusedLine, countsLine, classesLine, classLine, nodes, verdictLine, classLines, lines, joined}
 use Rattle.printing.proofs.Nodes.{nodes-none, nodes-filled, nodes-only, nodes-all}
@@ -41,17 +40,13 @@ shown-verdict w Free L old e = refl
 shown-verdict w (Loop h) L old e = ap (λ (t : List ℕ). word "loop " ++ headerLetters w h ++ word " cycle" ++ t ++ word "\n") (shown-nodes L old e)
 
 module _ (net : Network) where
-  ends-stay : (query : Pattern) (v : ℕ) → nodesOf net ≤ v → nodesOf net ≤ hop net query v
-  unfolding hop
-  ends-stay query v h = rw (le-ltb v (nodesOf net) h) h
-
   -- Each is a node of the network ..
   cycle-nodes : (v : Verdict) → verdictOf net ≡ v → (i : ℕ) → i < length (cycleIn net v) → getD (cycleIn net v) i 0 < nodesOf net
   unfolding cycleIn
   cycle-nodes Free e i h = absurd (omega arith)
   cycle-nodes (Loop g) e i h =
       let c = cycle-says net g e in
-      omega (arith, c .follows i h, live (hop net (queryOf net g)) (nodesOf net) (ends-stay (queryOf net g)) (c .first) (c .node) (c .on-cycle) i)
+      omega (arith, c .follows i h, live (hop net (queryOf net g)) (nodesOf net) (ends-stay net (queryOf net g)) (c .first) (c .node) (c .on-cycle) i)
 
   -- .. so that none is taken for 255: all are shown, each after a blank.
   pub shown-cycle : (file : List ℕ) → parse file ≡ accepted net

@@ -10,7 +10,7 @@ use native.Mathlib.Decide.{ℕ-discrete, decLt}
 use native.Mathlib.Omega.{arith}
 use lib.Dec.{eqb}
 use lib.ListN.{getD}
-use borrow.Author.Tests.{eqb-true, eq-eqb, lt-ltb, le-ltb, ltb-true}
+use borrow.Author.Tests.{eqb-true, eq-eqb, lt-ltb, ltb-true}
 use Rattle.pattern.specs.declared.Pattern.{Pattern}
 use Rattle.reading.specs.declared.Action.{Action}
 use Rattle.reading.specs.declared.Action.the-variants.{Forward, Drop, Deliver}
@@ -22,6 +22,7 @@ use Rattle.rounds.specs.Rounds.{hops, OnCycle}
 use Rattle.rounds.proofs.Pigeon.{pigeon}
 use Rattle.rounds.proofs.Cycle.{hops-add, ended, live}
 use Rattle.judge.specs.Forwarding.{nodesOf, actAt, hop, queryOf}
+use Rattle.judge.proofs.Demand2.{ends-stay}
 use Rattle.walk.specs.declared.WalkAnswer.{WalkAnswer}
 use Rattle.walk.specs.declared.WalkAnswer.the-variants.{Refused, Delivered, Dropped, Circling}
 use Rattle.walk.specs.Walking.{isIn, onAction, walkFrom, walkThrough, walkRead, walkOf}
@@ -87,10 +88,6 @@ module _ (net : Network) (query : Pattern) (leads : (v : ℕ) → v < nodesOf ne
   hop-deliver : (v : ℕ) → v < nodesOf net → actAt net query v ≡ Deliver → hop net query v ≡ nodesOf net
   unfolding hop
   hop-deliver v lt e = rw (lt-ltb v (nodesOf net) lt, e)
-
-  ends-stay : (v : ℕ) → nodesOf net ≤ v → nodesOf net ≤ hop net query v
-  unfolding hop
-  ends-stay v h = rw (le-ltb v (nodesOf net) h) h
 
   module _ (start : ℕ) (lt : start < nodesOf net) where
     record Met (met : List ℕ) (node h : ℕ) : Type 0 where
@@ -231,7 +228,7 @@ module _ (net : Network) (query : Pattern) (leads : (v : ℕ) → v < nodesOf ne
         later : (k : ℕ) → nodesOf net ≤ hops (hop net query) (k + suc h) start
         later k =
             subst (λ (v : ℕ). nodesOf net ≤ v) (sym (hops-add (hop net query) k (suc h) start))
-            (ended (hop net query) (nodesOf net) ends-stay k (hops (hop net query) (suc h) start) (omega (arith, after)))
+            (ended (hop net query) (nodesOf net) (ends-stay net query) k (hops (hop net query) (suc h) start) (omega (arith, after)))
 
         go : Dec (h < g .far) → ⊥
         go (yes less) = omega (arith, g .node, later (g .far - suc h), ap (λ k. hops (hop net query) k start) (plus (g .far) less))
@@ -241,7 +238,7 @@ module _ (net : Network) (query : Pattern) (leads : (v : ℕ) → v < nodesOf ne
         go (no more) =
             omega (
               arith,
-              live (hop net query) (nodesOf net) ends-stay (hops (hop net query) (g .far) start) (g .node) (g .on-cycle) (suc h - g .far),
+              live (hop net query) (nodesOf net) (ends-stay net query) (hops (hop net query) (g .far) start) (g .node) (g .on-cycle) (suc h - g .far),
               hops-add (hop net query) (suc h - g .far) (g .far) start,
               ap (λ k. hops (hop net query) k start) (plus (g .far) more),
               after,

@@ -1,8 +1,7 @@
 -- The rule record at a place of a table's part.
-use Rattle.reading.specs.Arrays.{goodRule}
 use native.Mathlib.Omega.{arith}
 use mathlib.Core.Path.{sym, ap, _∙_}
-use Rattle.reading.specs.Arrays.{foundIn, foundAt}
+use Rattle.reading.specs.Arrays.{goodRule, foundIn, foundAt}
 use Rattle.reading.proofs.Places.{inside-as}
 use Rattle.reading.proofs.Others.{no-rule, no-filter}
 use borrow.Author.Needs.{needs}
