@@ -83,8 +83,9 @@ uint8_t lanecompass_read(const uint8_t *file, size_t file_len, uint64_t *out, si
  * 0 free and 1 loop, and out[5] the least header that goes round, 0 when free. cares[i], values[i] and sizes[i] are class
  * i's care mask, value and number of headers, ordered by care mask, then value; from the class count to 1,023 they are 0.
  * A one of a care mask is a bit that must match. A header's class is the last i below the class count for which
- * (header & cares[i]) == values[i]. cycle begins with the nodes of the least header's cycle, from the lowest numbered node
- * on any cycle of it and each node once; the rest of the first 64 entries are 255, and all 64 when free.
+ * (header & cares[i]) == values[i] (`home-last` in classes/proofs/Demand3). cycle begins with the nodes of the least
+ * header's cycle, from the lowest numbered node on any cycle of it and each node once; the rest of the first 64 entries are
+ * 255, and all 64 when free.
  * After 12: the first 1,024 entries of the three lists are 0, and the first 64 of cycle 255.
  * After any other number: the four lists are as they were.
  * Entries past 1,024, and past 64 in cycle, never change. */

@@ -12,11 +12,11 @@ use lib.Pow.{pow-pos}
 use Rattle.pattern.specs.declared.Pattern.{Pattern}
 use Rattle.pattern.specs.Filters.{hits, allFree, within, common, count}
 use Rattle.pattern.proofs.Tests.{both, iff-eq}
-use Rattle.pattern.proofs.Within.{within-says, within-antisym}
+use Rattle.pattern.proofs.Within.{within-says, within-antisym, within-lt}
 use Rattle.pattern.proofs.Size.{count-ext}
-use Rattle.classes.specs.Classes.{patOf, same, Entry, classList, among}
+use Rattle.classes.specs.Classes.{patOf, same, before, Entry, classList, among}
 use Rattle.classes.specs.Steps.{sumIf}
-use Rattle.classes.proofs.Order.{or-r, or-says, same-says, among-first, ascending}
+use Rattle.classes.proofs.Order.{or-r, or-says, same-says, before-care, among-first, ascending}
 use Rattle.classes.proofs.Partition.{own}
 use Rattle.classes.proofs.Headers.{pat-none, pat-miss, pat-hit, alike-pat, alike-all, alike-hits, pat-alike}
 use Rattle.classes.proofs.Tally.{pats, list-sizes, list-proper, list-total, list-set, listed-size, list-has}
@@ -151,6 +151,12 @@ module _ (w : ℕ) (fs : List Pattern) where
   -- The entries stand in the order of care mask, then value.
   pub in-order : T (ascending (pats (classList w fs)))
   in-order = list-ascending w fs
+
+  -- Every other entry that matches a header comes before its home: the last that matches is its home.
+  pub home-last : (h : ℕ) (p q : Pattern) → Lists (classList w fs) p → T (home (classList w fs) p h) → Lists (classList w fs) q → T (hits q h) → (p ≡ q → ⊥) → T (before q p)
+  home-last h p q m t n k other =
+      before-care q p
+      (within-lt p q (listed-fit w fs p m) (within-says p q .0 (least-says (classList w fs) p h (both (hits p h) (leastOf (classList w fs) p h) .0 t .1) q n k)) other)
 
   -- The list is the same for filters with the same members, entry for entry.
   pub same-members : (gs : List Pattern) → ((f : Pattern) → T (among f fs) ↔ T (among f gs)) → classList w fs ≡ classList w gs
