@@ -10,7 +10,8 @@ use lib.ListN.{length}
 use Rattle.pattern.specs.declared.Pattern.{Pattern}
 use Rattle.pattern.specs.Filters.{allFree, WellFormed}
 use Rattle.pattern.proofs.Size.{count-ext}
-use Rattle.classes.specs.Classes.{patOf, same, entry, classList, patternAt, patternsFrom, AllWellFormed}
+use Rattle.classes.specs.Classes.{patOf, same, entry, classList}
+use Rattle.classes.specs.Given.{patternAt, patternsFrom, AllWellFormed}
 use Rattle.classes.specs.Steps.{takenIn, Sound}
 use Rattle.classes.proofs.Counts.{count-same}
 use Rattle.classes.proofs.Headers.{pat-none, care-pat, care-snoc}

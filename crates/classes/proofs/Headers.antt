@@ -13,7 +13,8 @@ use Rattle.pattern.proofs.Tests.{both, iff-eq, beq-says}
 use Rattle.pattern.proofs.Digits.{Ex, var, none, _∩_, _∪_, _≐_, by-bits}
 use Rattle.pattern.proofs.Masks.{x0, x1, x2, x3, x4, sub-antisym}
 use Rattle.pattern.proofs.Within.{pair, Fit, Within, within-says, hits-says, Agree, common-hits}
-use Rattle.classes.specs.Classes.{careOf, patOf, same, among, AllWellFormed}
+use Rattle.classes.specs.Classes.{careOf, patOf, same, among}
+use Rattle.classes.specs.Given.{AllWellFormed}
 use Rattle.classes.proofs.Order.{or-r, same-says, among-first}
 use Rattle.classes.proofs.Partition.{Closed, hits-own}
 

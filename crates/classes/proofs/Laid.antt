@@ -4,7 +4,8 @@ use mathlib.Core.List.{List, [], _∷_, _++_, map, append-assoc}
 use Prim.Native.Nat.{ℕ, zero, suc, _-_}
 use lib.ListN.{length, drop, replicate}
 use Rattle.pattern.specs.declared.Pattern.{Pattern}
-use Rattle.classes.specs.Classes.{Entry, laid, careAt, valueAt, patternAt, patternsFrom}
+use Rattle.classes.specs.Classes.{Entry, laid, careAt, valueAt}
+use Rattle.classes.specs.Given.{patternAt, patternsFrom}
 use Rattle.classes.proofs.Tally.{pats}
 
 -- What is laid out: the figures, and what comes after them.

@@ -8,7 +8,8 @@ use lib.Dec.{T}
 use Rattle.pattern.specs.declared.Pattern.{Pattern}
 use Rattle.pattern.specs.Filters.{hits, within, WellFormed}
 use Rattle.pattern.proofs.Within.{Fit, within-says, hits-says}
-use Rattle.classes.specs.Classes.{patOf, same, before, Entry, classList, among, AllWellFormed}
+use Rattle.classes.specs.Classes.{patOf, same, before, Entry, classList, among}
+use Rattle.classes.specs.Given.{AllWellFormed}
 use Rattle.classes.proofs.Counts.{count-some}
 use Rattle.classes.proofs.Order.{or-r, is-false, same-says, among-first, before-irrefl, ascending, distinct, before-member, ascending-distinct}
 use Rattle.classes.proofs.Partition.{Closed, hits-own}

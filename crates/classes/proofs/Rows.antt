@@ -14,7 +14,8 @@ use Rattle.pattern.specs.declared.Pattern.{Pattern}
 use Rattle.pattern.specs.Filters.{within}
 use Rattle.pattern.proofs.Digits.{none, _∪_, _≐_, by-bits}
 use Rattle.pattern.proofs.Masks.{x0, or-assoc}
-use Rattle.classes.specs.Classes.{same, before, Entry, entry, tally, patternAt, patternsFrom}
+use Rattle.classes.specs.Classes.{same, before, Entry, entry, tally}
+use Rattle.classes.specs.Given.{patternAt, patternsFrom}
 use Rattle.classes.specs.Steps.{sumIf, cover, row, rows}
 use Rattle.classes.proofs.Shifts.{Inserted, Removed}
 use Rattle.classes.proofs.Order.{same-says, before-asym, before-irrefl}

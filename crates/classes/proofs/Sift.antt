@@ -15,7 +15,8 @@ use Rattle.pattern.proofs.Digits.{_∩_, _∪_, _≐_, by-bits}
 use Rattle.pattern.proofs.Masks.{x0, x1, x2, x3, sub-lt}
 use Rattle.pattern.proofs.Within.{pair, Within, within-says, hits-says, within-lt, Agree, agree-says, common-hits, common-fit}
 use Rattle.pattern.proofs.Size.{ind, count-ext, count-fixed, pattern-size}
-use Rattle.classes.specs.Classes.{patOf, same, before, Entry, classList, among, AllWellFormed}
+use Rattle.classes.specs.Classes.{patOf, same, before, Entry, classList, among}
+use Rattle.classes.specs.Given.{AllWellFormed}
 use Rattle.classes.specs.Steps.{sumIf, inside, moved, cut, sift, Sound}
 use Rattle.classes.proofs.Counts.{count-add, count-le, count-same}
 use Rattle.classes.proofs.Order.{or-r, or-says, is-true, is-false, same-says, among-first, before-trans, before-asym, before-irrefl, before-care, beforeAll, before-member}

@@ -10,7 +10,8 @@ use Rattle.pattern.specs.Filters.{hits, within, WellFormed}
 use Rattle.pattern.proofs.Digits.{none, _∩_, _∪_, _≐_, by-bits}
 use Rattle.pattern.proofs.Masks.{x0, x1, x2, x3}
 use Rattle.pattern.proofs.Within.{within-says, within-hits}
-use Rattle.classes.specs.Classes.{careOf, classList, AllWellFormed}
+use Rattle.classes.specs.Classes.{careOf, classList}
+use Rattle.classes.specs.Given.{AllWellFormed}
 use Rattle.classes.specs.Steps.{sift, cover, takenIn}
 use Rattle.classes.proofs.Headers.{care-pat, care-grows, care-head}
 use Rattle.classes.proofs.Tally.{list-same}

@@ -15,7 +15,8 @@ use lib.Seq.{getD-set-same, getD-set-other}
 use Rattle.pattern.specs.declared.Pattern.{Pattern}
 use Rattle.pattern.specs.Filters.{within, common, held}
 use Rattle.pattern.proofs.Tests.{eq→eqb, both}
-use Rattle.classes.specs.Classes.{same, Entry, entry, tally, patternAt}
+use Rattle.classes.specs.Classes.{same, Entry, entry, tally}
+use Rattle.classes.specs.Given.{patternAt}
 use Rattle.classes.specs.Steps.{inserted, removed, Room, Changed, Each, SameFrom, sumIf, inside, moved, cut, siftOne, sift, cover, takenIn, SoundOne, Sound, row, rows, Placed, Kept, Became, Took}
 use Rattle.classes.proofs.Shifts.{Inserted, Removed, inserted-says, removed-says}
 use Rattle.classes.proofs.Order.{is-true, is-false, same-says, before-total}

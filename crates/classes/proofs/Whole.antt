@@ -9,7 +9,8 @@ use lib.Dec.{leb}
 use lib.ListN.{length, getD, set, take, drop, replicate, length-drop}
 use lib.Seq.{getD-set-same, getD-set-other, ext-getD, getD-drop, drop-cons}
 use Rattle.pattern.specs.declared.Pattern.{Pattern}
-use Rattle.classes.specs.Classes.{Entry, entry, classList, listed, laid, careAt, valueAt, sizeOf, patternAt, patternsFrom, AllWellFormed}
+use Rattle.classes.specs.Classes.{Entry, entry, classList, laid, careAt, valueAt, sizeOf}
+use Rattle.classes.specs.Given.{listed, patternAt, patternsFrom, AllWellFormed}
 use Rattle.classes.specs.Steps.{takenIn, Sound, row, rows, SameFrom, wiped, Room, Each, Changed, Took, Gathered}
 use Rattle.classes.proofs.Grow.{list-start, next-list, next-sound, no-fewer}
 use Rattle.classes.proofs.Rows.{pat}

@@ -5,10 +5,10 @@ use mathlib.Core.Bool.{Bool, false, _&&_, _||_, cond}
 use mathlib.Core.List.{List, [], _∷_, _++_, map}
 use Prim.Native.Nat.{ℕ, zero, suc, _+_, _-_, _^_}
 use lib.Bits.{bitAnd, bitOr}
-use lib.Dec.{eqb, ltb, leb}
-use lib.ListN.{length, getD, drop, replicate}
+use lib.Dec.{eqb, ltb}
+use lib.ListN.{length, drop, replicate}
 use Rattle.pattern.specs.declared.Pattern.{Pattern}
-use Rattle.pattern.specs.Filters.{hits, WellFormed}
+use Rattle.pattern.specs.Filters.{hits}
 
 -- The cared bits of all filters that header h matches.
 abbrev pub careOf : List Pattern → ℕ → ℕ
@@ -50,10 +50,6 @@ tallyAll pattern (suc n) = tally (pattern n) 1 (tallyAll pattern n)
 abbrev pub classList : ℕ → List Pattern → List Entry
 classList w fs = tallyAll (patOf fs) (2 ^ w)
 
--- More than 512 classes are refused, and nothing is listed then.
-unfoldable pub listed : ℕ → List Pattern → List Entry
-listed w fs = cond (leb (length (classList w fs)) 512) (classList w fs) []
-
 -- A lent list after success: one figure of each entry, 0 from the class count to entry 1,023, and the entries past that as they were.
 abbrev pub laid : (Entry → ℕ) → List Entry → List ℕ → List ℕ
 laid figure L old = map figure L ++ replicate (1024 - length L) 0 ++ drop 1024 old
@@ -68,20 +64,7 @@ valueAt e = e .pat .value
 abbrev pub sizeOf : Entry → ℕ
 sizeOf e = e .size
 
--- The pattern at place j of a list of care masks and a list of values, and the m patterns from there on.
-abbrev pub patternAt : List ℕ → List ℕ → ℕ → Pattern
-patternAt cares values j = record { care = getD cares j 0; value = getD values j 0 }
-
-unfoldable pub patternsFrom : List ℕ → List ℕ → ℕ → ℕ → List Pattern
-patternsFrom cares values j zero = []
-patternsFrom cares values j (suc m) = patternAt cares values j ∷ patternsFrom cares values (suc j) m
-
--- Every filter is of w bits, and its value is zero at free bits.
-abbrev pub AllWellFormed : ℕ → List Pattern → Type 0
-AllWellFormed w [] = Unit
-AllWellFormed w (f ∷ fs) = WellFormed w f × AllWellFormed w fs
-
--- p is one of the filters.
+-- p is one of the patterns.
 abbrev pub among : Pattern → List Pattern → Bool
 among p [] = false
 among p (q ∷ qs) = same p q || among p qs

@@ -1,3 +1,4 @@
--- What a reader must believe of classes (Classes), and what the code's steps are (Steps).
+-- What a reader must believe of classes (Classes); what the code is given (Given), and what its steps are (Steps).
 pub mod Classes
+pub mod Given
 pub mod Steps

@@ -8,7 +8,8 @@ use lib.Dec.{T, eqb}
 use lib.ListN.{getD, length, take, drop, replicate}
 use Rattle.pattern.specs.declared.Pattern.{Pattern}
 use Rattle.pattern.specs.Filters.{within, agree, common, held}
-use Rattle.classes.specs.Classes.{Entry, entry, before, tally, classList, patternAt}
+use Rattle.classes.specs.Classes.{Entry, entry, before, tally, classList}
+use Rattle.classes.specs.Given.{patternAt}
 
 -- ---- on a list of entries
 

@@ -4,7 +4,8 @@ ghost use mathlib.Core.Bool.{cond};
 ghost use Prim.Native.Nat.{_≤_};
 ghost use lib.Dec.{leb};
 ghost use lib.ListN.{length};
-ghost use Rattle.classes.specs.Classes.{listed, laid, careAt, valueAt, sizeOf, patternsFrom, AllWellFormed};
+ghost use Rattle.classes.specs.Classes.{laid, careAt, valueAt, sizeOf};
+ghost use Rattle.classes.specs.Given.{listed, patternsFrom, AllWellFormed};
 ghost use Rattle.classes.specs.Steps.{Room, Gathered};
 
 mod places;

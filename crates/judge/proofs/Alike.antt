@@ -12,7 +12,8 @@ use Rattle.pattern.proofs.Within.{header-within}
 use Rattle.reading.specs.declared.Action.{Action}
 use Rattle.reading.specs.declared.Rule.{Rule}
 use Rattle.reading.specs.Network.{Network, act, filters}
-use Rattle.classes.specs.Classes.{patOf, same, among, AllWellFormed}
+use Rattle.classes.specs.Classes.{patOf, same, among}
+use Rattle.classes.specs.Given.{AllWellFormed}
 use Rattle.classes.proofs.Order.{or-l, or-r, or-says, same-says, same-refl}
 use Rattle.classes.proofs.Listed.{class-hits}
 use Rattle.rounds.specs.Rounds.{lowest}

@@ -9,7 +9,8 @@ use lib.ListN.{length, drop}
 use Rattle.pattern.specs.declared.Pattern.{Pattern}
 use Rattle.pattern.specs.Filters.{WellFormed}
 use Rattle.reading.specs.Network.{Network, filters}
-use Rattle.classes.specs.Classes.{patOf, patternsFrom, AllWellFormed}
+use Rattle.classes.specs.Classes.{patOf}
+use Rattle.classes.specs.Given.{patternsFrom, AllWellFormed}
 use Rattle.classes.proofs.Tally.{pats, list-has}
 use Rattle.classes.proofs.Listed.{listed-of}
 use Rattle.classes.proofs.Number.{pats-length}

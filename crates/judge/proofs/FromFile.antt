@@ -12,7 +12,7 @@ use Rattle.reading.specs.File.{Parsed, refused, accepted, parse, answerOf, read
 use Rattle.reading.specs.Arrays.{caresOf, valuesOf, beginsOf, filled, rulesIn, partAt}
 use Rattle.reading.proofs.Networks.{Every}
 use Rattle.reading.proofs.Demand1.{Bounded, accepted-is-bounded, ArraysAgree, arrays-agree, PartAgrees, parts-agree}
-use Rattle.classes.specs.Classes.{AllWellFormed, patternsFrom}
+use Rattle.classes.specs.Given.{AllWellFormed, patternsFrom}
 use Rattle.least.proofs.LeastHeader.{patterns-stand}
 use Rattle.judge.specs.Forwarding.{nodesOf}
 use Rattle.judge.specs.Judging.{Lent, onParsed, judgedOf}

@@ -10,7 +10,8 @@ use borrow.Author.Tests.{leb-true, ltb-false}
 use Rattle.pattern.specs.declared.Pattern.{Pattern}
 use Rattle.reading.specs.Network.{Network, rulesOf, filters}
 use Rattle.reading.specs.File.{Parsed, accepted, parse}
-use Rattle.classes.specs.Classes.{Entry, classList, listed, laid, careAt, valueAt, AllWellFormed}
+use Rattle.classes.specs.Classes.{Entry, classList, laid, careAt, valueAt}
+use Rattle.classes.specs.Given.{listed, AllWellFormed}
 use Rattle.classes.proofs.Demand3.{some-class}
 use Rattle.judge.specs.declared.Verdict.{Verdict}
 use Rattle.judge.specs.declared.JudgeAnswer.the-variants.{Refused, Judged}

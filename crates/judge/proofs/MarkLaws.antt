@@ -7,7 +7,7 @@ use native.Mathlib.Omega.{arith}
 use lib.ListN.{length, take, drop, set, take-append-drop}
 use lib.Seq.{drop-set-lt}
 use Rattle.pattern.specs.declared.Pattern.{Pattern}
-use Rattle.classes.specs.Classes.{patternAt, patternsFrom}
+use Rattle.classes.specs.Given.{patternAt, patternsFrom}
 use Rattle.classes.proofs.Rows.{patterns-step, patterns-end}
 use Rattle.rounds.proofs.Written.{put-more}
 

@@ -16,7 +16,7 @@ use Rattle.reading.proofs.Demand1.{accepted-is-bounded}
 use Rattle.judge.specs.Forwarding.{actAt, queryOf}
 use Rattle.judge.proofs.Alike.{AllAmong, tables-among, care-in}
 use Rattle.judge.proofs.FromFile.{all-formed}
-use Rattle.classes.specs.Classes.{AllWellFormed}
+use Rattle.classes.specs.Given.{AllWellFormed}
 use Rattle.pattern.specs.declared.Pattern.{Pattern}
 
 -- The first rule that the header matches acts.

@@ -6,7 +6,8 @@ use lib.ListN.{length, getD}
 use Rattle.reading.specs.Network.{Network, rulesOf, filters}
 use Rattle.reading.specs.File.{Parsed, refused, accepted, parse}
 use Rattle.reading.specs.Arrays.{rulesIn, partAt}
-use Rattle.classes.specs.Classes.{laid, careAt, valueAt, patternsFrom, AllWellFormed}
+use Rattle.classes.specs.Classes.{laid, careAt, valueAt}
+use Rattle.classes.specs.Given.{patternsFrom, AllWellFormed}
 use Rattle.judge.specs.Forwarding.{nodesOf}
 use Rattle.judge.specs.Judging.{classesOf}
 

@@ -6,7 +6,7 @@ ghost use mathlib.Core.Path.{_≡_};
 ghost use mathlib.Core.List.{_++_, map};
 ghost use Prim.Native.Nat.{_≤_};
 ghost use lib.ListN.{drop};
-ghost use Rattle.classes.specs.Classes.{patternsFrom};
+ghost use Rattle.classes.specs.Given.{patternsFrom};
 ghost use Rattle.least.specs.Steps.{markOf};
 ghost use Rattle.rounds.specs.Rounds.{cycleBytes};
 ghost use Rattle.judge.specs.declared.Verdict.the-variants.{Loop};

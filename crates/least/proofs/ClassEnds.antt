@@ -9,7 +9,8 @@ use Rattle.pattern.specs.declared.Pattern.{Pattern}
 use Rattle.pattern.specs.Filters.{hits, within, WellFormed}
 use Rattle.pattern.proofs.Tests.{both, iff-eq}
 use Rattle.pattern.proofs.Within.{Within, within-says, within-refl, within-lt}
-use Rattle.classes.specs.Classes.{patOf, same, before, among, classList, AllWellFormed}
+use Rattle.classes.specs.Classes.{patOf, same, before, among, classList}
+use Rattle.classes.specs.Given.{AllWellFormed}
 use Rattle.classes.proofs.Order.{or-l, or-r, or-says, same-says, among-first, before-asym, before-irrefl, before-care, before-member, beforeAll, ascending}
 use Rattle.classes.proofs.Partition.{hits-own}
 use Rattle.classes.proofs.Headers.{pat-fit}

@@ -11,7 +11,8 @@ use lib.Seq.{getD-drop, drop-drop}
 use Rattle.pattern.specs.declared.Pattern.{Pattern}
 use Rattle.pattern.specs.Filters.{hits, WellFormed}
 use Rattle.pattern.proofs.Within.{pair}
-use Rattle.classes.specs.Classes.{Entry, patOf, classList, patternsFrom, AllWellFormed}
+use Rattle.classes.specs.Classes.{Entry, patOf, classList}
+use Rattle.classes.specs.Given.{patternsFrom, AllWellFormed}
 use Rattle.classes.proofs.Tally.{pats, list-has}
 use Rattle.least.specs.Steps.{recount, Enough, someOf, search, markOf}
 use Rattle.least.proofs.Counts.{counted, recount-is, recount-enough}

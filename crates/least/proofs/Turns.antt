@@ -14,7 +14,8 @@ use lib.Pow.{pow-mono, pow-pos}
 use lib.Count.{ones}
 use Rattle.pattern.specs.declared.Pattern.{Pattern}
 use Rattle.pattern.specs.Filters.{within, agree, common}
-use Rattle.classes.specs.Classes.{Entry, entry, patternAt, patternsFrom}
+use Rattle.classes.specs.Classes.{Entry, entry}
+use Rattle.classes.specs.Given.{patternAt, patternsFrom}
 use Rattle.classes.specs.Steps.{sumIf, rows}
 use Rattle.classes.proofs.Rows.{rows-step, rows-end, rows-ext, patterns-step, patterns-end}
 use Rattle.least.specs.Steps.{shared, recount, Enough, someMarked, someOf}

@@ -6,7 +6,8 @@ use lib.Dec.{eqb}
 use lib.ListN.{getD}
 use Rattle.pattern.specs.declared.Pattern.{Pattern}
 use Rattle.pattern.specs.Filters.{within, agree, common, held}
-use Rattle.classes.specs.Classes.{Entry, entry, patternAt}
+use Rattle.classes.specs.Classes.{Entry, entry}
+use Rattle.classes.specs.Given.{patternAt}
 use Rattle.classes.specs.Steps.{sumIf, rows}
 
 -- How many headers of w bits p and P both hold.

@@ -8,7 +8,7 @@ ghost use lib.Dec.{eqb};
 ghost use lib.ListN.{getD};
 ghost use Rattle.pattern.specs.declared.Pattern.{Pattern};
 ghost use Rattle.pattern.specs.Filters.{WellFormed};
-ghost use Rattle.classes.specs.Classes.{patternAt, patternsFrom};
+ghost use Rattle.classes.specs.Given.{patternAt, patternsFrom};
 ghost use Rattle.classes.specs.Steps.{rows};
 ghost use Rattle.least.specs.Steps.{shared, laterIn, recount, Enough, someMarked, someOf, search};
 

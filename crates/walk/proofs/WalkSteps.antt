@@ -14,7 +14,7 @@ use borrow.Author.Tests.{eq-eqb, ne-eqb, lt-ltb, le-ltb}
 use Rattle.pattern.specs.Filters.{hits}
 use Rattle.reading.specs.declared.Action.{Action}
 use Rattle.reading.specs.declared.Action.the-variants.{Forward, Drop, Deliver}
-use Rattle.classes.specs.Classes.{patternAt}
+use Rattle.classes.specs.Given.{patternAt}
 use Rattle.rounds.proofs.Cycle.{fuel}
 use Rattle.walk.specs.declared.WalkAnswer.the-variants.{Refused, Delivered, Dropped, Circling}
 use Rattle.walk.specs.Walking.{isIn, onAction, walkFrom, walkBy}

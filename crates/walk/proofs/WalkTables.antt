@@ -21,7 +21,7 @@ use Rattle.reading.specs.Code.{leadsIn}
 use Rattle.reading.specs.Arrays.{caresOf, valuesOf, actionsOf, firstsOf, codeOf, filled}
 use Rattle.reading.proofs.Networks.{Every, starts}
 use Rattle.reading.proofs.Demand1.{rules-lead, Bounded, accepted-is-bounded, ArraysAgree, arrays-agree, table-in-arrays}
-use Rattle.classes.specs.Classes.{patternAt}
+use Rattle.classes.specs.Given.{patternAt}
 use Rattle.judge.specs.Forwarding.{actAt}
 use Rattle.judge.specs.Steps.{networkOf}
 use Rattle.judge.proofs.FromFile.{Told}

@@ -7,7 +7,7 @@ use lib.ListN.{getD}
 use Rattle.pattern.specs.Filters.{hits}
 use Rattle.reading.specs.declared.Action.{Action}
 use Rattle.reading.specs.declared.Action.the-variants.{Forward, Drop, Deliver}
-use Rattle.classes.specs.Classes.{patternAt}
+use Rattle.classes.specs.Given.{patternAt}
 
 -- An action byte in a network of n nodes: 65 delivers, a node's number forwards, any other drops.
 unfoldable pub decoded : ℕ → ℕ → Action

@@ -1,6 +1,6 @@
 -- `classes::build` meets its contract: what stands after the gathering is laid out, or nothing where it is too much.
 use native.Mathlib.Omega.{arith}
-use Rattle.classes.specs.Classes.{patternsFrom}
+use Rattle.classes.specs.Given.{patternsFrom}
 use Rattle.classes.proofs.Whole.{most-fits, built}
 use borrow.Author.Needs.{needs}
 use Rattle.classes.proofs.build.Statement.{statement}

@@ -3,7 +3,7 @@ use mathlib.Core.Path.{_∙_}
 use Prim.Native.Nat.{_-_, _^_, _*_, _%_}
 use native.Mathlib.Omega.{arith}
 use lib.ListN.{set, length-set}
-use Rattle.classes.specs.Classes.{patternsFrom}
+use Rattle.classes.specs.Given.{patternsFrom}
 use lib.Dec.{lit<}
 use lib.Pow.{shl-exact}
 use native.Mathlib.Nat.{one-mul}

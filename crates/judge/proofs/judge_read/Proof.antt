@@ -5,7 +5,8 @@ use lib.ListN.{length}
 use borrow.Author.Needs.{needs}
 use native.Mathlib.Omega.{arith}
 use Rattle.reading.specs.Network.{filters}
-use Rattle.classes.specs.Classes.{Entry, listed, laid, careAt, valueAt, sizeOf, patternsFrom}
+use Rattle.classes.specs.Classes.{Entry, laid, careAt, valueAt, sizeOf}
+use Rattle.classes.specs.Given.{listed, patternsFrom}
 use Rattle.judge.specs.Judging.{Lent, Judgement, lentOf}
 use Rattle.judge.specs.Steps.{networkOf}
 use Rattle.judge.proofs.JudgeLaws.{listed-none, listed-some, same-listed, judged-many, judged-fine, listed-lists, formed-here, answer-is}

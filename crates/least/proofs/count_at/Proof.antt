@@ -2,7 +2,7 @@
 use borrow.Author.Needs.{needs}
 use native.Mathlib.Nat.{le-trans}
 use native.Mathlib.Omega.{arith}
-use Rattle.classes.specs.Classes.{patternAt}
+use Rattle.classes.specs.Given.{patternAt}
 use Rattle.least.proofs.Turns.{shared-le}
 use Rattle.least.proofs.count_at.Statement.{statement}
 use Rattle.least.proofs.count_at.Tie as tie

@@ -8,7 +8,7 @@ use borrow.Author.Tests.{not-true, not-false}
 use lib.Pow.{pow-mono}
 use native.Mathlib.Omega.{arith}
 use Rattle.pattern.specs.declared.Pattern.{Pattern}
-use Rattle.classes.specs.Classes.{patternsFrom}
+use Rattle.classes.specs.Given.{patternsFrom}
 use Rattle.least.specs.Steps.{recount, someOf}
 use Rattle.least.proofs.Search.{Found, found-none, found-all, care-fits, value-fits, asked-formed, found-low, found-high}
 use Rattle.least.proofs.least.Statement.{statement}

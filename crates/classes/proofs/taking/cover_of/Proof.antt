@@ -4,7 +4,7 @@ use mathlib.Core.Logic.{⊎-elim}
 use Prim.Native.Nat.{_-_, _≤_}
 use native.Mathlib.Omega.{arith}
 use lib.Bits.{bitOr}
-use Rattle.classes.specs.Classes.{patternsFrom}
+use Rattle.classes.specs.Given.{patternsFrom}
 use Rattle.classes.specs.Steps.{cover}
 use borrow.Author.Needs.{needs}
 use Rattle.classes.proofs.Rows.{cover-start, cover-in, cover-out, cover-end}

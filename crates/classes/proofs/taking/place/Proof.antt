@@ -3,7 +3,8 @@ use mathlib.Core.Path.{sym, _∙_, subst}
 use Prim.Native.Nat.{ℕ, _-_, _≤_, _<_}
 use native.Mathlib.Omega.{arith}
 use lib.Dec.{T}
-use Rattle.classes.specs.Classes.{before, patternAt}
+use Rattle.classes.specs.Classes.{before}
+use Rattle.classes.specs.Given.{patternAt}
 use Rattle.classes.proofs.Rows.{passed-more}
 use Rattle.classes.proofs.taking.place.Statement.{statement}
 use Rattle.classes.proofs.taking.place.Tie as tie

@@ -1,6 +1,6 @@
 -- `classes::taking::take_next` meets its contract: the filter is passed over, or sifted in.
 use mathlib.Core.Path.{sym, _∙_}
-use Rattle.classes.specs.Classes.{patternAt, patternsFrom}
+use Rattle.classes.specs.Given.{patternAt, patternsFrom}
 use borrow.Author.Needs.{needs}
 use Rattle.classes.proofs.Steps.{passed-over, sifted-in}
 use Rattle.classes.proofs.taking.take_next.Statement.{statement}

@@ -5,7 +5,7 @@ use Prim.Native.Nat.{_≤_, _-_}
 use lib.ListN.{length, length-set, drop}
 use borrow.Author.Needs.{needs}
 use native.Mathlib.Omega.{arith}
-use Rattle.classes.specs.Classes.{patternsFrom}
+use Rattle.classes.specs.Given.{patternsFrom}
 use Rattle.least.specs.Steps.{markOf}
 use Rattle.judge.specs.Verdicts.{loops}
 use Rattle.judge.specs.Steps.{networkOf}
