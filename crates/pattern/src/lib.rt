@@ -1,4 +1,6 @@
 // Filters as patterns: a care mask and a value, the two notations of a mask, and what two patterns have to do with each other.
+#![tactic(auto)]
+
 ghost use Rattle.std.specs.Prelude.{◌≡◌, ◌-◌, ◌^◌, ◌≤◌, ◌<◌};
 ghost use Rattle.pattern.specs.Filters.{hits, within, agree, common, held, header_of};
 ghost use Rattle.pattern.specs.Notations.{caring_of, freeing_of, noted_of};
@@ -32,6 +34,7 @@ pub fn low_ones(width: u8) -> u32
 }
 
 // A filter by its care mask, with the mask as it is written.
+#[tactic(auto, using(crate::proofs::Notes::wide_mask, crate::proofs::Notes::wide_value, crate::proofs::Notes::fine, crate::proofs::Notes::at_free))]
 fn filter_of(width: u8, care: u32, mask: u32, value: u32) -> Noted
     requires { width ≤ 32 }
     ensures { result ≡ noted_of width care mask value }
