@@ -1,4 +1,6 @@
 // Going round: cycles in a row of next nodes. A row has the next node at each node's place; n nodes, and n or more is an end.
+#![tactic(auto)]
+
 ghost use Rattle.std.specs.Prelude.{◌≡◌, ◌-◌, ◌≤◌, ◌<◌, ◌++◌, true, length, drop, take, replicate};
 ghost use Rattle.rounds.specs.Rows.{next_of};
 ghost use Rattle.rounds.specs.Rounds.{returns_to, lowest, cycle_of, cycle_for, cycle_bytes};
