@@ -1,5 +1,7 @@
 // The calls of Lanecompass for programs in C and other languages: each takes numbers and slices, returns a number, and writes
 // six figures to a lent list. include/lanecompass.h is the same for a reader of C.
+#![tactic(auto)]
+
 ghost use Rattle.std.specs.Prelude.{◌≡◌, ◌++◌, ◌≤◌, length, drop};
 ghost use Rattle.reading.specs.File.{read_of};
 ghost use Rattle.judge.specs.Judging.{lent_of, judge_of};

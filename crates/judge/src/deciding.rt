@@ -24,7 +24,7 @@ fn mark_all(
     requires stands { Stands file.now begins.now nodes width }
     requires cares { n ≤ length cares.now }
     requires values { n ≤ length values.now }
-    requires* marks { do ⌜ n ≤ (← ⟦marks.len()⟧) ⌝ }
+    requires marks { n ≤ length marks.old }
     ensures { marks.new ≡ map (mark_of (loops (network_of file.now))) (patterns_from cares.now values.now 0 n) ++ drop n marks.old }
 {
     let mut j = 0;
@@ -49,7 +49,7 @@ fn write_loop(
     cycle: &mut [u8],
 )
     requires stands { Stands file.now begins.now nodes width }
-    requires* room { do ⌜ 64 ≤ (← ⟦cycle.len()⟧) ⌝ }
+    requires room { 64 ≤ length cycle.old }
     ensures { cycle.new ≡ cycle_bytes (cycle_in (network_of file.now) (Loop header)) cycle.old }
 {
     let query = Pattern::of_header(width, header);
@@ -72,7 +72,7 @@ pub fn decide(
     requires cares { n ≤ length cares.now }
     requires values { n ≤ length values.now }
     requires few { n ≤ 512 }
-    requires* room { do ⌜ 64 ≤ (← ⟦cycle.len()⟧) ⌝ }
+    requires room { 64 ≤ length cycle.old }
     requires listed { Listed (network_of file.now) cares.now values.now n }
     ensures verdict { result ≡ verdict_of (network_of file.now) }
     ensures cycle { cycle.new ≡ cycle_bytes (cycle_in (network_of file.now) (verdict_of (network_of file.now))) cycle.old }

@@ -1,4 +1,6 @@
 // Judge: rows of next nodes, the least header that goes round, and its cycle.
+#![tactic(auto)]
+
 mod deciding;
 mod rows;
 
@@ -49,10 +51,10 @@ fn judge_read(
     requires read { Read file.now width nodes rules fcares.now fvalues.now begins.now }
     requires fcares { rules ≤ length fcares.now }
     requires fvalues { rules ≤ length fvalues.now }
-    requires* cares { do ⌜ 1024 ≤ (← ⟦cares.len()⟧) ⌝ }
-    requires* values { do ⌜ 1024 ≤ (← ⟦values.len()⟧) ⌝ }
-    requires* sizes { do ⌜ 1024 ≤ (← ⟦sizes.len()⟧) ⌝ }
-    requires* cycle { do ⌜ 64 ≤ (← ⟦cycle.len()⟧) ⌝ }
+    requires cares { 1024 ≤ length cares.old }
+    requires values { 1024 ≤ length values.old }
+    requires sizes { 1024 ≤ length sizes.old }
+    requires cycle { 64 ≤ length cycle.old }
     ensures answer { result ≡ (judged_of (network_of file.now) (lent_of cares.old values.old sizes.old cycle.old)).answer }
     ensures cares { cares.new ≡ (judged_of (network_of file.now) (lent_of cares.old values.old sizes.old cycle.old)).lent.cares }
     ensures values { values.new ≡ (judged_of (network_of file.now) (lent_of cares.old values.old sizes.old cycle.old)).lent.values }
@@ -85,10 +87,10 @@ fn judge_lent(
     sizes: &mut [u64],
     cycle: &mut [u8],
 ) -> JudgeAnswer
-    requires* cares { do ⌜ 1024 ≤ (← ⟦cares.len()⟧) ⌝ }
-    requires* values { do ⌜ 1024 ≤ (← ⟦values.len()⟧) ⌝ }
-    requires* sizes { do ⌜ 1024 ≤ (← ⟦sizes.len()⟧) ⌝ }
-    requires* cycle { do ⌜ 64 ≤ (← ⟦cycle.len()⟧) ⌝ }
+    requires cares { 1024 ≤ length cares.old }
+    requires values { 1024 ≤ length values.old }
+    requires sizes { 1024 ≤ length sizes.old }
+    requires cycle { 64 ≤ length cycle.old }
     ensures answer { result ≡ (on_parsed (parse file.now) (lent_of cares.old values.old sizes.old cycle.old)).answer }
     ensures cares { cares.new ≡ (on_parsed (parse file.now) (lent_of cares.old values.old sizes.old cycle.old)).lent.cares }
     ensures values { values.new ≡ (on_parsed (parse file.now) (lent_of cares.old values.old sizes.old cycle.old)).lent.values }

@@ -1,4 +1,6 @@
 // The least header of the marked classes, by prefixes from the top bit.
+#![tactic(auto)]
+
 ghost use Rattle.std.specs.Prelude.{◌≡◌, not, ◌&&◌, ◌+◌, ◌-◌, ◌^◌, ◌≤◌, ◌<◌, eqb, length, get_or};
 ghost use Rattle.pattern.specs.declared.Pattern.{Pattern};
 ghost use Rattle.pattern.specs.Filters.{WellFormed};
@@ -67,7 +69,7 @@ fn count_under(
 )
     requires cares { n ≤ length cares.now }
     requires values { n ≤ length values.now }
-    requires* counts { do ⌜ n ≤ (← ⟦counts.len()⟧) ⌝ }
+    requires counts { n ≤ length counts.old }
     requires short { width ≤ 32 }
     requires prefix { prefix.care < 2 ^ width }
     requires enough { Enough width prefix (patterns_from cares.now values.now 0 n) }
@@ -132,7 +134,7 @@ fn some_under(
     requires cares { n ≤ length cares.now }
     requires values { n ≤ length values.now }
     requires marks { n ≤ length marks.now }
-    requires* counts { do ⌜ n ≤ (← ⟦counts.len()⟧) ⌝ }
+    requires counts { n ≤ length counts.old }
     requires short { width ≤ 32 }
     requires prefix { prefix.care < 2 ^ width }
     requires enough { Enough width prefix (patterns_from cares.now values.now 0 n) }
@@ -162,7 +164,7 @@ pub fn least(
     requires cares { n ≤ length cares.now }
     requires values { n ≤ length values.now }
     requires marks { n ≤ length marks.now }
-    requires* counts { do ⌜ n ≤ (← ⟦counts.len()⟧) ⌝ }
+    requires counts { n ≤ length counts.old }
     requires short { width ≤ 32 }
     requires enough { (P : Pattern) → WellFormed width P → Enough width P (patterns_from cares.now values.now 0 n) }
     ensures { result ≡ search (λ P. some_of marks.now 0 (recount width P (patterns_from cares.now values.now 0 n))) width width 0 }

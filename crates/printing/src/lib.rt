@@ -1,4 +1,6 @@
 // What text an answer becomes: the lines of the printed verdict, each written into a lent buffer from its start.
+#![tactic(auto)]
+
 ghost use Rattle.std.specs.Prelude.{◌≡◌, [], ◌≤◌, ◌<◌, length, get_or};
 ghost use Rattle.printing.specs.Buffer.{Put};
 ghost use Rattle.printing.specs.Lines.{refused_line, counts_line, classes_line, class_line, verdict_line, lines};

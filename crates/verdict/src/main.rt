@@ -1,4 +1,6 @@
 // Reads a network file from standard input and prints the verdict, line by line.
+#![tactic(auto)]
+
 ghost use Rattle.printing.specs.Asked.{Bounded, Lengths};
 ghost use Rattle.judge.specs.Judging.{lent_of};
 

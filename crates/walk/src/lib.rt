@@ -1,4 +1,6 @@
 // Walk: one header from one node through the working arrays.
+#![tactic(auto)]
+
 ghost use Rattle.std.specs.Prelude.{◌≡◌, [], ◌∷◌, ◌≤◌, ◌<◌};
 ghost use Rattle.walk.specs.Walking.{walk_from, walk_by, walk_of};
 ghost use Rattle.walk.specs.Steps.{acts_in, Within};
