@@ -12,14 +12,14 @@ ghost use Rattle.judge.specs.Steps.{network_of, Read};
 use reading::ReadAnswer;
 
 // The verdict: no header goes round, or the least that does.
-#[derive(Drop)]
+#[derive(Clone, Copy)]
 pub enum Verdict {
     Free,
     Loop(u32),
 }
 
 // What Judge answers: the refusal's number and place, or the counts and the verdict.
-#[derive(Drop)]
+#[derive(Clone, Copy)]
 pub enum JudgeAnswer {
     Refused {
         number: u8,

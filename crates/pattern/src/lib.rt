@@ -6,14 +6,14 @@ ghost use Rattle.pattern.specs.Filters.{hits, within, agree, common, held, heade
 ghost use Rattle.pattern.specs.Notations.{caring_of, freeing_of, noted_of};
 
 // A filter: the cared bits, and the value at them.
-#[derive(Drop)]
+#[derive(Clone, Copy)]
 pub struct Pattern {
     pub care: u32,
     pub value: u32,
 }
 
 // A filter as it is written: the pattern, or what is wrong with it.
-#[derive(Drop)]
+#[derive(Clone, Copy)]
 pub enum Noted {
     Fine(Pattern),
     // The mask has a one above the width.

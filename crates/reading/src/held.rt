@@ -7,7 +7,7 @@ use crate::records;
 use crate::records::Record;
 
 // The lent file, and the place of the record that is next.
-#[derive(Drop)]
+#[derive(Clone, Copy)]
 pub struct Records<'a> {
     pub file: &'a [u8],
     pub at: usize,

@@ -13,7 +13,7 @@ use records::Record;
 use steps::{State, Step};
 
 // What a rule does with a header that matches it.
-#[derive(Drop)]
+#[derive(Clone, Copy)]
 pub enum Action {
     Forward(u8),
     Drop,
@@ -21,14 +21,14 @@ pub enum Action {
 }
 
 // A rule of a node's table.
-#[derive(Drop)]
+#[derive(Clone, Copy)]
 pub struct Rule {
     pub pattern: Pattern,
     pub action: Action,
 }
 
 // What Read answers: the refusal's number and place, or width, node count and rule count.
-#[derive(Drop)]
+#[derive(Clone, Copy)]
 pub enum ReadAnswer {
     Refused { number: u8, place: usize },
     Accepted { width: u8, nodes: u8, rules: usize },
@@ -144,7 +144,7 @@ pub fn fill(
 }
 
 // A rule that stands at a place, with the place after it.
-#[derive(Drop)]
+#[derive(Clone, Copy)]
 enum Found {
     Good(Rule, usize),
     Nothing,

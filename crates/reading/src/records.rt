@@ -6,14 +6,14 @@ ghost use Rattle.reading.specs.Code.{rule_shape, written_at, action_at, whole_at
 use crate::Action;
 
 // The two notations of a mask: its ones are the cared bits, or the free ones.
-#[derive(Drop)]
+#[derive(Clone, Copy)]
 pub enum Notation {
     Caring,
     Freeing,
 }
 
 // What a rule's kind says that it does.
-#[derive(Drop)]
+#[derive(Clone, Copy)]
 pub enum Doing {
     Forwards,
     Drops,
@@ -21,7 +21,7 @@ pub enum Doing {
 }
 
 // A record's case by its kind byte.
-#[derive(Drop)]
+#[derive(Clone, Copy)]
 pub enum Case {
     Network,
     Table,
@@ -31,14 +31,14 @@ pub enum Case {
 }
 
 // What the kind byte fixes: the record's case and the length of its body.
-#[derive(Drop)]
+#[derive(Clone, Copy)]
 pub struct Shape {
     pub case: Case,
     pub body: usize,
 }
 
 // A rule record as it is written, with the length of its body.
-#[derive(Drop)]
+#[derive(Clone, Copy)]
 pub struct Written {
     pub notation: Notation,
     pub mask: u32,
@@ -48,7 +48,7 @@ pub struct Written {
 }
 
 // What stands at a place: a record with its fields, one that the file's end cuts short, a kind that is none, or the file's end.
-#[derive(Drop)]
+#[derive(Clone, Copy)]
 pub enum Record {
     Network { width: u8, nodes: u8 },
     Table { node: u8 },

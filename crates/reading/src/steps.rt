@@ -17,7 +17,7 @@ const MOST_NODES: u8 = 64;
 const MOST_RULES: usize = 256;
 
 // How far the reading is. Before the network record the width is 0.
-#[derive(Drop)]
+#[derive(Clone, Copy)]
 pub struct State {
     pub at: usize,
     pub width: u8,
@@ -27,7 +27,7 @@ pub struct State {
 }
 
 // What a record does: it is refused, opens the network, begins a table, adds a rule to it, or ends the file.
-#[derive(Drop)]
+#[derive(Clone, Copy)]
 pub enum Step {
     Refused { number: u8, place: usize },
     Opened(State),

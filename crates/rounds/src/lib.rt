@@ -6,7 +6,7 @@ ghost use Rattle.rounds.specs.Rows.{next_of};
 ghost use Rattle.rounds.specs.Rounds.{returns_to, lowest, cycle_of, cycle_for, cycle_bytes};
 
 // The lowest node on a cycle, where there is one.
-#[derive(Drop)]
+#[derive(Clone, Copy)]
 pub enum Lowest {
     Node(usize),
     Nowhere,

@@ -9,7 +9,7 @@ use pattern::Pattern;
 use reading::ReadAnswer;
 
 // What Walk answers: the refusal's number and place, or the outcome with its node and hops.
-#[derive(Drop)]
+#[derive(Clone, Copy)]
 pub enum WalkAnswer {
     Refused { number: u8, place: usize },
     Delivered { node: u8, hops: u8 },
