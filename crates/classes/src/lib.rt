@@ -1,4 +1,6 @@
 // The class list of a set of filters: each class's pattern and size, in order, in three lent lists.
+#![tactic(auto)]
+
 ghost use Rattle.std.specs.Prelude.{◌≡◌, cond, ◌≤◌, leb, length};
 ghost use Rattle.classes.specs.Classes.{laid, care_at, value_at, size_of};
 ghost use Rattle.classes.specs.Given.{listed, patterns_from, AllWellFormed};
@@ -60,9 +62,9 @@ pub fn build(
 ) -> usize
     requires fcares { count ≤ length fcares.now }
     requires fvalues { count ≤ length fvalues.now }
-    requires* cares { do ⌜ 1024 ≤ (← ⟦cares.len()⟧) ⌝ }
-    requires* values { do ⌜ 1024 ≤ (← ⟦values.len()⟧) ⌝ }
-    requires* sizes { do ⌜ 1024 ≤ (← ⟦sizes.len()⟧) ⌝ }
+    requires cares { 1024 ≤ length cares.old }
+    requires values { 1024 ≤ length values.old }
+    requires sizes { 1024 ≤ length sizes.old }
     requires short { width ≤ 32 }
     requires formed { AllWellFormed width (patterns_from fcares.now fvalues.now 0 count) }
     ensures classes { result ≡ length (listed width (patterns_from fcares.now fvalues.now 0 count)) }

@@ -31,7 +31,11 @@ pub fn within_sum(
         let value = values[j];
         let size = sizes[j];
         let q = Pattern { care, value };
-        if q.within(p) {
+        let r = Pattern {
+            care: p.care,
+            value: p.value,
+        };
+        if q.within(r) {
             sum = sum + size;
         }
         j = j + 1;
@@ -64,7 +68,11 @@ fn place(cares: &[u32], values: &[u32], from: usize, n: usize, p: Pattern) -> us
 {
     let mut j = from;
     while j < n {
-        if comes_before(cares, values, j, p) {
+        let q = Pattern {
+            care: p.care,
+            value: p.value,
+        };
+        if comes_before(cares, values, j, q) {
             j = j + 1;
         } else {
             return j;
@@ -104,8 +112,16 @@ fn add_entry(
     requires part { k ≤ 2 ^ 32 }
     ensures { Became from n result cares.new values.new sizes.new cares.old values.old sizes.old (tally p k (rows cares.old values.old sizes.old from (n - from))) }
 {
-    let i = place(cares, values, from, n, p);
-    if is_at(cares, values, i, n, p) {
+    let q = Pattern {
+        care: p.care,
+        value: p.value,
+    };
+    let r = Pattern {
+        care: p.care,
+        value: p.value,
+    };
+    let i = place(cares, values, from, n, q);
+    if is_at(cares, values, i, n, r) {
         let s = sizes[i];
         sizes[i] = s + k;
         return n;
@@ -148,7 +164,15 @@ fn move_part(
 fn is_cut(p: Pattern, f: Pattern) -> bool
     ensures { result ≡ cut p f }
 {
-    p.agrees(f) && !p.within(f)
+    let q = Pattern {
+        care: p.care,
+        value: p.value,
+    };
+    let g = Pattern {
+        care: f.care,
+        value: f.value,
+    };
+    q.agrees(g) && !p.within(f)
 }
 
 // Entry `i` is divided by the filter; the new number of entries.
@@ -172,10 +196,23 @@ fn sift_one(
     let care = cares[i];
     let value = values[i];
     let p = Pattern { care, value };
-    if is_cut(p, f) {
+    let q = Pattern { care, value };
+    let g = Pattern {
+        care: f.care,
+        value: f.value,
+    };
+    if is_cut(q, g) {
         let part = p.common(f);
-        let h = part.held(width);
-        let s = within_sum(cares, values, sizes, i + 1, m, part);
+        let whole = Pattern {
+            care: part.care,
+            value: part.value,
+        };
+        let again = Pattern {
+            care: part.care,
+            value: part.value,
+        };
+        let h = whole.held(width);
+        let s = within_sum(cares, values, sizes, i + 1, m, again);
         return move_part(cares, values, sizes, i, m, part, h - s);
     }
     m
@@ -201,7 +238,11 @@ fn take_in(
     let mut i = n;
     while 0 < i {
         i = i - 1;
-        m = sift_one(cares, values, sizes, i, m, width, f);
+        let g = Pattern {
+            care: f.care,
+            value: f.value,
+        };
+        m = sift_one(cares, values, sizes, i, m, width, g);
     }
     m
 }
@@ -217,7 +258,11 @@ fn cover_of(fcares: &[u32], fvalues: &[u32], count: usize, f: Pattern) -> u32
     while j < count {
         let care = fcares[j];
         let value = fvalues[j];
-        if f.within(Pattern { care, value }) {
+        let g = Pattern {
+            care: f.care,
+            value: f.value,
+        };
+        if g.within(Pattern { care, value }) {
             all = all | care;
         }
         j = j + 1;
@@ -248,7 +293,8 @@ pub fn take_next(
     let care = fcares[j];
     let value = fvalues[j];
     let f = Pattern { care, value };
-    if cover_of(fcares, fvalues, j, f) == f.care {
+    let g = Pattern { care, value };
+    if cover_of(fcares, fvalues, j, g) == f.care {
         return n;
     }
     take_in(cares, values, sizes, n, width, f)

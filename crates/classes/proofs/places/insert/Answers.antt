@@ -1,0 +1,18 @@
+-- `classes::places::insert` meets its contract. The loop's invariant: in each list those from j on have moved.
+use mathlib.Core.Path.{◌∙◌}
+use Prim.Native.Nat.{◌≤◌, ◌-◌}
+use native.Mathlib.Nat.{le_refl}
+use native.Mathlib.Omega.{arith}
+use lib.ListN.{length-set}
+use Rattle.classes.specs.Steps.{Each}
+use Rattle.classes.proofs.Shifts.{Rising, rising_start, rising_step, rising_end}
+use Rattle.classes.proofs.places.insert.Goals as goal
+
+pub returns : goal.returns
+returns c =
+    let end = rising_end c.args.i c.loop-j.j c.args.n in
+    record {
+      cares = end c.args.p.care c.loop-j.cares c.args.cares.now (omega arith) (omega arith) (omega arith) (omega arith) c.loop-j.invariant.2.cares;
+      values = end c.args.p.value c.loop-j.values c.args.values.now (omega arith) (omega arith) (omega arith) (omega arith) c.loop-j.invariant.2.values;
+      sizes = end c.args.k c.loop-j.sizes c.args.sizes.now (omega arith) (omega arith) (omega arith) (omega arith) c.loop-j.invariant.2.sizes;
+    }

@@ -1,0 +1,17 @@
+-- `classes::taking::within_sum` meets its contract. The loop's invariant: what is summed and what is still to come make the whole.
+use mathlib.Core.Path.{◌≡◌, sym, ◌∙◌}
+use mathlib.Core.Logic.{⊎_elim}
+use mathlib.Core.Bool.{true, false}
+use Prim.Native.Nat.{◌+◌, ◌-◌, ◌≤◌}
+use native.Mathlib.Omega.{arith}
+use Rattle.pattern.specs.Filters.{within}
+use Rattle.classes.specs.Steps.{sum_if, rows}
+use borrow.Author.Rules.{rules}
+use Rattle.classes.proofs.Rows.{sum_step, sum_end}
+use Rattle.classes.proofs.taking.within_sum.Given as goal
+
+abbrev pub invariant-loop-j : goal.invariant-loop-j
+invariant-loop-j l = (l.j ≤ l.n) × (l.sum + sum_if (λ q. within q l.p) (rows l.cares l.values l.sizes l.j (l.n - l.j)) ≡ sum_if (λ q. within q l.p) (rows l.cares l.values l.sizes l.from (l.n - l.from)))
+
+abbrev pub decreases-loop-j : goal.decreases-loop-j
+decreases-loop-j l = l.n - l.j
