@@ -18,7 +18,7 @@ use Rattle.reading.specs.declared.records.Notation.{Notation}
 use Rattle.reading.specs.declared.records.Notation.TheVariants.{Caring, Freeing}
 use Rattle.reading.specs.declared.records.Doing.TheVariants.{Drops}
 use Rattle.reading.specs.declared.records.Case.{Case}
-use Rattle.reading.specs.declared.records.Case.TheVariants.{Network, Table, Rule, End, Unknown}
+use Rattle.reading.specs.declared.records.Case.TheVariants.{Network, Table, Rule, End}
 use Rattle.reading.specs.declared.records.Written.{Written}
 use Rattle.reading.specs.declared.records.Record.{Record}
 use Rattle.reading.specs.declared.records.Record.TheVariants as record_of

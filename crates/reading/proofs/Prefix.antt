@@ -9,7 +9,6 @@ use borrow.Author.Tests.{leb-true, leb-false, lt-ltb, lt-leb}
 use lib.Dec.{leb}
 use lib.ListN.{length, take}
 use lib.Seq.{take_all}
-use Rattle.reading.specs.declared.Rule.{Rule}
 use Rattle.reading.specs.declared.records.Doing.TheVariants.{Forwards, Drops, Delivers}
 use Rattle.reading.specs.declared.records.Case.{Case}
 use Rattle.reading.specs.declared.records.Case.TheVariants.{Network, Table, Rule as rule-case, End, Unknown}

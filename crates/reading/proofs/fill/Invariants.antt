@@ -1,11 +1,7 @@
 -- The working arrays are filled. Between two records each holds its numbers of the records taken in (`Filling`).
 use Prim.Native.Nat.{◌-◌}
-use mathlib.Core.Path.{sym, ◌∙◌}
 use lib.ListN.{length}
-use native.Mathlib.Omega.{arith}
-use borrow.Author.Rules.{rules}
-use Rattle.reading.proofs.Progress.{known_refused, known_ended, less_opened, less_begun, less_ruled}
-use Rattle.reading.proofs.Filling.{Filling, filling_starts, filling_opened, filling_begun, filling_ruled, filled_refused, filled_ended, table_place, rule_place}
+use Rattle.reading.proofs.Filling.{Filling}
 use Rattle.reading.proofs.fill.Given as goal
 
 abbrev pub invariant-loop-number : goal.invariant-loop-number

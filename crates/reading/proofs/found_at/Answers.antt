@@ -4,7 +4,6 @@ use mathlib.Core.Path.{sym, ap, ◌∙◌}
 use Rattle.reading.specs.Arrays.{good_rule, found_in, found_at}
 use Rattle.reading.proofs.Places.{inside_as}
 use Rattle.reading.proofs.Others.{no_rule, no_filter}
-use borrow.Author.Rules.{rules}
 use Rattle.reading.proofs.found_at.Goals as goal
 
 pub overflow_add-result : goal.overflow_add-result

@@ -1,9 +1,6 @@
 -- The lookup in a table's part. Between two records, the rest of the part gives the answer (`Looking`).
-use Prim.Native.Nat.{◌-◌}
 use mathlib.Core.Path.{sym, ◌∙◌}
-use lib.ListN.{length}
-use borrow.Author.Rules.{rules}
-use Rattle.reading.proofs.Looking.{Looking, looking_starts, looking_less, looking_hit, looking_miss, looking_stop}
+use Rattle.reading.proofs.Looking.{looking_starts, looking_less, looking_hit, looking_miss, looking_stop}
 use Rattle.reading.proofs.lookup.Goals as goal
 
 pub loop-rule-init : goal.loop-rule-init

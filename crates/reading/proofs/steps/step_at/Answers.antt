@@ -4,7 +4,6 @@ use mathlib.Core.Path.{sym, ◌∙◌}
 use Rattle.reading.specs.Code.{step_on}
 use Rattle.reading.proofs.Agree.{stepped}
 use Rattle.reading.proofs.Places.{inside_as}
-use borrow.Author.Rules.{rules}
 use Rattle.reading.proofs.steps.step_at.Goals as goal
 
 pub network-requires : goal.network-requires
