@@ -1,15 +1,17 @@
 -- The table of kinds: the case fixes the body's length, and what holds of each row holds of every kind byte.
-use Prim.Native.Nat.{ℕ, ◌+◌, ◌-◌, ◌≤◌, ◌<◌}
+use Prim.Native.Nat.{ℕ, zero, suc, ◌+◌, ◌-◌, ◌≤◌, ◌<◌}
 use mathlib.Core.List.{List, [], ◌∷◌}
 use mathlib.Core.Path.{◌≡◌, refl, sym, subst}
 use native.Mathlib.Omega.{arith}
 use borrow.Author.Tests.{ne_eqb, ltb-true, ltb-false}
 use lib.Dec.{eqb, ltb}
 use Rattle.reading.specs.declared.records.Notation.TheVariants.{Caring, Freeing}
+use Rattle.reading.specs.declared.records.Doing.{Doing}
+use Rattle.reading.specs.declared.records.Doing.TheVariants.{Forwards, Drops, Delivers}
 use Rattle.reading.specs.declared.records.Case.TheVariants.{Unknown}
 use Rattle.reading.specs.declared.records.Shape.{Shape}
 use Rattle.reading.specs.Kinds.{Kind, kinds, find_kind, shape_of}
-use Rattle.reading.specs.Code.{shape, rule_shape, body_of}
+use Rattle.reading.specs.Code.{shape, rule_shape, rule_body, body_of}
 use Rattle.reading.proofs.Tests.{by_test, cond_elim}
 
 abbrev All : (Shape → Type 0) → List Kind → Type 0
@@ -66,3 +68,15 @@ unknown_kind k n1 n2 n127 low high =
       ne_eqb k 20 (λ e. high (omega arith) (omega arith)),
       ne_eqb k 21 (λ e. high (omega arith) (omega arith)),
     )
+
+pub at_least_3 : (k : ℕ) → 1 ≤ k → (k ≡ 1 → ⊥) → (k ≡ 2 → ⊥) → 3 ≤ k
+at_least_3 zero a h1 h2 = omega arith
+at_least_3 (suc zero) a h1 h2 = absurd (h1 refl)
+at_least_3 (suc (suc zero)) a h1 h2 = absurd (h2 refl)
+at_least_3 (suc (suc (suc k))) a h1 h2 = omega arith
+
+-- Mask and value take eight bytes, the next node one more.
+pub rule_body_lem : (d : Doing) → 8 ≤ rule_body d
+rule_body_lem Forwards = omega arith
+rule_body_lem Drops = omega arith
+rule_body_lem Delivers = omega arith

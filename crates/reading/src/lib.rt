@@ -178,8 +178,7 @@ pub fn lookup(part: &[u8], width: u8, query: Pattern) -> Action
     loop {
         match found_at(part, at, width) {
             Found::Good(rule, next) => {
-                let asked = Pattern { ..query };
-                if asked.within(rule.pattern) {
+                if query.within(rule.pattern) {
                     return rule.action;
                 }
                 at = next;
