@@ -1,6 +1,7 @@
 -- The least header that passes a test, found from its high bits down; and the pattern of a prefix.
 use mathlib.Core.Path.{◌≡◌, refl, sym, ap, ap₂, ◌∙◌, subst}
 use mathlib.Core.Logic.{◌↔◌}
+use mathlib.Core.List.{List}
 use mathlib.Core.Bool.{Bool, true, false, cond}
 use Prim.Native.Nat.{ℕ, zero, suc, ◌+◌, ◌-◌, ◌*◌, ◌/◌, ◌%◌, ◌^◌, ◌≤◌, ◌<◌, zero-le}
 use native.Mathlib.Nat.{sub_self, mod-eq_of_lt, div-one, div-eq_of_lt, eq_of_mul-eq-mul_right, pow-suc, mul_assoc, add-mul, one-mul, mul-lt-mul_of_pos_right}
@@ -12,7 +13,8 @@ use lib.Bits.{bit_and, and_high}
 use Rattle.pattern.specs.declared.Pattern.{Pattern}
 use Rattle.pattern.specs.Filters.{hits, WellFormed}
 use Rattle.pattern.proofs.Within.{pair, hits_says}
-use Rattle.least.specs.Steps.{prefix, search}
+use Rattle.classes.specs.Given.{patterns_from}
+use Rattle.least.specs.Steps.{prefix, search, recount, some_of}
 
 -- ---- the pattern of a prefix
 
@@ -210,3 +212,7 @@ module _ {some : Pattern → Bool} {w left care value bit : ℕ} (s : Found some
     values = high_value;
     same = step false t;
   }
+
+-- The test that the search goes by: whether a marked class has a header under the prefix.
+abbrev pub under : List ℕ → List ℕ → List ℕ → ℕ → ℕ → Pattern → Bool
+under cares values marks n width P = some_of marks 0 (recount width P (patterns_from cares values 0 n))

@@ -1,4 +1,6 @@
 // The network file: Read, the working arrays, and the lookup in a node's table.
+#![tactic(auto)]
+
 mod held;
 mod records;
 mod steps;
@@ -176,7 +178,8 @@ pub fn lookup(part: &[u8], width: u8, query: Pattern) -> Action
     loop {
         match found_at(part, at, width) {
             Found::Good(rule, next) => {
-                if query.within(rule.pattern) {
+                let asked = Pattern { ..query };
+                if asked.within(rule.pattern) {
                     return rule.action;
                 }
                 at = next;

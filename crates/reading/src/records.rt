@@ -80,6 +80,7 @@ fn rule_shape(notation: Notation, nth: u8) -> Shape
 }
 
 // The table of kinds.
+#[tactic(auto, using(crate::proofs::Shapes::caring_kinds, crate::proofs::Shapes::freeing_kinds, crate::proofs::Shapes::unknown_kind), unfolding(crate::specs::Kinds::shape_of))]
 pub fn shape_of(kind: u8) -> Shape
     ensures { result ≡ shape_of kind }
 {
@@ -152,6 +153,7 @@ fn rule_at(file: &[u8], at: usize, notation: Notation, doing: Doing, body: usize
 }
 
 // The record of a case at a place, whose body is all there.
+#[tactic(auto, unfolding(crate::specs::Code::whole_at))]
 fn whole_at(file: &[u8], at: usize, case: Case, body: usize) -> Record
     requires { Whole file.now at case }
     ensures { result ≡ whole_at file.now at case body }
@@ -169,6 +171,7 @@ fn whole_at(file: &[u8], at: usize, case: Case, body: usize) -> Record
 }
 
 // What stands at a place of the file.
+#[tactic(auto, using(crate::proofs::Places::short_record, crate::proofs::Places::whole_there, crate::proofs::Places::whole_record), unfolding(crate::specs::Code::record_at))]
 pub fn record_at(file: &[u8], at: usize) -> Record
     ensures { result ≡ record_at file.now at }
 {

@@ -101,6 +101,7 @@ fn short(st: State, case: Case) -> Step
 }
 
 // 01: the width and the node count.
+#[tactic(auto, unfolding(crate::specs::Code::network_step))]
 fn network(st: State, width: u8, nodes: u8) -> Step
     requires { st.at + 3 < 2 ^ 64 }
     ensures { result ≡ network_step st width nodes }
@@ -130,6 +131,7 @@ fn network(st: State, width: u8, nodes: u8) -> Step
 }
 
 // 02: the next node's table begins.
+#[tactic(auto, unfolding(crate::specs::Code::table_step))]
 fn table(st: State, node: u8) -> Step
     requires { st.at + 2 < 2 ^ 64 }
     ensures { result ≡ table_step st node }
@@ -161,6 +163,7 @@ fn leads(action: Action, nodes: u8) -> bool
 }
 
 // A rule whose filter is good.
+#[tactic(auto, unfolding(crate::specs::Code::ruled_step))]
 fn ruled(st: State, written: Written, pattern: Pattern) -> Step
     requires { (st.at + (1 + written.body) < 2 ^ 64) × (st.rules < 256) }
     ensures { result ≡ ruled_step st written pattern }
@@ -182,6 +185,7 @@ fn ruled(st: State, written: Written, pattern: Pattern) -> Step
 }
 
 // 03 to 05 and 13 to 15: a rule of the table.
+#[tactic(auto, unfolding(crate::specs::Code::rule_step, crate::specs::Code::filter_step))]
 fn rule(st: State, written: Written) -> Step
     requires { (st.at + (1 + written.body) < 2 ^ 64) × (st.width ≤ 32) }
     ensures { result ≡ rule_step st written }
@@ -202,6 +206,7 @@ fn rule(st: State, written: Written) -> Step
 }
 
 // 7F: the end, and nothing more.
+#[tactic(auto, unfolding(crate::specs::Code::end_step))]
 fn end(st: State, length: usize) -> Step
     requires { st.at < length }
     ensures { result ≡ end_step st length }

@@ -1,5 +1,6 @@
 -- Going round within n hops is going round.
 use mathlib.Core.Path.{◌≡◌, refl, sym, ◌∙◌, ap}
+use mathlib.Core.List.{List}
 use mathlib.Core.Bool.{Bool, true, false, ◌||◌, or-true, true≢false}
 use Prim.Native.Nat.{ℕ, zero, suc, ◌+◌, ◌-◌, ◌*◌, ◌≤◌, ◌<◌}
 use native.Mathlib.Nat.{suc-add, zero-add, zero-mul, suc-mul, add_comm, le-mul_of_pos_right, sub-zero}
@@ -141,3 +142,7 @@ row_ends row n v h = rw (le-ltb v n h) h
 pub row_next : (row : _) (n v : ℕ) → v < n → next_of row n v ≡ lib.ListN.get_or row v 0
 unfolding next_of
 row_next row n v h = rw (lt-ltb v n h)
+
+-- The next node is what is read of the row.
+pub next_read : (row : List ℕ) (n v r : ℕ) → v < n → r ≡ lib.ListN.get_or row v 0 → next_of row n v ≡ r
+next_read row n v r h e = row_next row n v h ∙ sym e

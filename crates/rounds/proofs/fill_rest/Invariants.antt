@@ -1,9 +1,8 @@
 -- `rounds::fill_rest` meets its contract. The invariant: padding from i on is padding from `from` on.
-use mathlib.Core.Path.{◌≡◌, refl, sym, ◌∙◌, ap}
+use mathlib.Core.Path.{◌≡◌}
 use Prim.Native.Nat.{◌≤◌, ◌-◌}
-use native.Mathlib.Omega.{arith}
-use lib.ListN.{length, length-set}
-use Rattle.rounds.proofs.Written.{Padded, pad_more, pad_done}
+use lib.ListN.{length}
+use Rattle.rounds.proofs.Written.{Padded}
 use Rattle.rounds.proofs.fill_rest.Given as goal
 
 abbrev pub invariant-loop-i : goal.invariant-loop-i

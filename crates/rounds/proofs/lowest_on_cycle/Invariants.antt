@@ -1,10 +1,8 @@
 -- `rounds::lowest_on_cycle` meets its contract. The invariant: the answer from v on, with the nodes left, is the answer.
-use mathlib.Core.Path.{◌≡◌, sym, ◌∙◌}
+use mathlib.Core.Path.{◌≡◌}
 use Prim.Native.Nat.{◌≤◌, ◌-◌}
-use native.Mathlib.Omega.{arith}
 use Rattle.rounds.specs.Rows.{next_of}
 use Rattle.rounds.specs.Rounds.{lowest, low_from}
-use Rattle.rounds.proofs.Low.{low_first, low_hit, low_miss, low_none}
 use Rattle.rounds.proofs.lowest_on_cycle.Given as goal
 
 abbrev pub invariant-loop-v : goal.invariant-loop-v

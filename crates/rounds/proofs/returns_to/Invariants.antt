@@ -1,11 +1,8 @@
 -- `rounds::returns_to` meets its contract. The invariant: what is still to be tested from cur, with the turns left, is what was to be tested.
-use mathlib.Core.Path.{◌≡◌, sym, ◌∙◌, ap}
-use Prim.Native.Nat.{ℕ, ◌≤◌, ◌<◌, ◌-◌, ◌+◌}
-use native.Mathlib.Omega.{arith}
-use borrow.Author.Rules.{rules}
+use mathlib.Core.Path.{◌≡◌}
+use Prim.Native.Nat.{◌≤◌, ◌<◌, ◌-◌}
 use Rattle.rounds.specs.Rounds.{returns_to, back_in}
 use Rattle.rounds.specs.Rows.{next_of}
-use Rattle.rounds.proofs.Cycle.{back_first, back_hit, back_miss, back_ended, back_none, row_next, row_ends}
 use Rattle.rounds.proofs.returns_to.Given as goal
 
 abbrev pub invariant-loop-i : goal.invariant-loop-i

@@ -1,6 +1,5 @@
 -- `rounds::write_cycle` meets its contract, from what its two callees ensure.
 use mathlib.Core.Path.{◌∙◌}
-use borrow.Author.Rules.{rules}
 use Rattle.rounds.specs.Rows.{next_of}
 use Rattle.rounds.specs.Rounds.{cycle_of}
 use Rattle.rounds.proofs.Written.{Padded, pad_front}

@@ -1,6 +1,5 @@
 -- `rounds::write_lowest` meets its contract, from its callees' contracts.
 use mathlib.Core.Path.{sym, ◌∙◌}
-use borrow.Author.Rules.{rules}
 use Rattle.rounds.specs.Rounds.{cycle_for}
 use Rattle.rounds.specs.Rows.{next_of}
 use Rattle.rounds.proofs.Low.{node_means}
