@@ -145,10 +145,10 @@ module _ (r : Pattern) (k : ℕ) (cs vs ns : List ℕ) (i m : ℕ) (im : i < m) 
     pub removed_is : rows cs₁ vs₁ ns₁ i (m - 1 - i) ≡ M
     removed_is = removed-rows cs vs ns cs₁ vs₁ ns₁ i m im out.cares out.values out.sizes ∙ ap (λ (x : ℕ). rows cs vs ns x (m - x)) (sym (add-one i))
 
-    pub moved-whole : (cs₂ vs₂ ns₂ : List ℕ) (n : ℕ) → (k ≡ 0 → ⊥) → k ≡ get_or ns i 0
+    pub moved_whole : (cs₂ vs₂ ns₂ : List ℕ) (n : ℕ) → (k ≡ 0 → ⊥) → k ≡ get_or ns i 0
         → Became i (m - 1) n cs₂ vs₂ ns₂ cs₁ vs₁ ns₁ (tally r k (rows cs₁ vs₁ ns₁ i (m - 1 - i)))
         → Became i m n cs₂ vs₂ ns₂ cs vs ns (moved (row cs vs ns i) r k M)
-    moved-whole cs₂ vs₂ ns₂ n z e t = record {
+    moved_whole cs₂ vs₂ ns₂ n z e t = record {
       is = t.is ∙ ap (tally r k) removed_is
           ∙ sym (pick false true (is_false (eqb k 0) (λ u. z (eqb→eq k 0 u))) (is_true (eqb k (get_or ns i 0)) (eq→eqb e)));
       from = t.from;
@@ -160,10 +160,10 @@ module _ (r : Pattern) (k : ℕ) (cs vs ns : List ℕ) (i m : ℕ) (im : i < m) 
   set_is x =
       rows_ext cs vs ns cs vs (set ns i x) (i + 1) (m - (i + 1)) (λ j l h. refl) (λ j l h. refl) (λ j l h. get_or-set_other ns i j x 0 (omega arith))
 
-  pub moved-part : (cs₂ vs₂ ns₂ : List ℕ) (n : ℕ) → (k ≡ 0 → ⊥) → (k ≡ get_or ns i 0 → ⊥)
+  pub moved_part : (cs₂ vs₂ ns₂ : List ℕ) (n : ℕ) → (k ≡ 0 → ⊥) → (k ≡ get_or ns i 0 → ⊥)
       → Became (i + 1) m n cs₂ vs₂ ns₂ cs vs (set ns i (get_or ns i 0 - k)) (tally r k (rows cs vs (set ns i (get_or ns i 0 - k)) (i + 1) (m - (i + 1))))
       → Became i m n cs₂ vs₂ ns₂ cs vs ns (moved (row cs vs ns i) r k M)
-  moved-part cs₂ vs₂ ns₂ n z e t = record {
+  moved_part cs₂ vs₂ ns₂ n z e t = record {
     is = rows_step cs₂ vs₂ ns₂ i n (omega (arith, t.from))
         ∙ ap (λ (x : ℕ). row cs₂ vs₂ ns₂ i ∷ rows cs₂ vs₂ ns₂ x (n - x)) (sym (add-one i))
         ∙ ap₂ (λ (x : Entry) (l : List Entry). x ∷ l) head (t.is ∙ ap (tally r k) (set_is (get_or ns i 0 - k)))

@@ -31,11 +31,7 @@ pub fn within_sum(
         let value = values[j];
         let size = sizes[j];
         let q = Pattern { care, value };
-        let r = Pattern {
-            care: p.care,
-            value: p.value,
-        };
-        if q.within(r) {
+        if q.within(p) {
             sum = sum + size;
         }
         j = j + 1;
@@ -68,11 +64,7 @@ fn place(cares: &[u32], values: &[u32], from: usize, n: usize, p: Pattern) -> us
 {
     let mut j = from;
     while j < n {
-        let q = Pattern {
-            care: p.care,
-            value: p.value,
-        };
-        if comes_before(cares, values, j, q) {
+        if comes_before(cares, values, j, p) {
             j = j + 1;
         } else {
             return j;
@@ -112,16 +104,8 @@ fn add_entry(
     requires part { k ≤ 2 ^ 32 }
     ensures { Became from n result cares.new values.new sizes.new cares.old values.old sizes.old (tally p k (rows cares.old values.old sizes.old from (n - from))) }
 {
-    let q = Pattern {
-        care: p.care,
-        value: p.value,
-    };
-    let r = Pattern {
-        care: p.care,
-        value: p.value,
-    };
-    let i = place(cares, values, from, n, q);
-    if is_at(cares, values, i, n, r) {
+    let i = place(cares, values, from, n, p);
+    if is_at(cares, values, i, n, p) {
         let s = sizes[i];
         sizes[i] = s + k;
         return n;
@@ -131,6 +115,7 @@ fn add_entry(
 }
 
 // `k` headers of entry `i` go over to `p`, whose place is later; the new number of entries.
+#[tactic(auto, using(crate::proofs::Steps::removed_is, crate::proofs::Steps::moved_whole))]
 fn move_part(
     cares: &mut [u32],
     values: &mut [u32],
@@ -164,15 +149,7 @@ fn move_part(
 fn is_cut(p: Pattern, f: Pattern) -> bool
     ensures { result ≡ cut p f }
 {
-    let q = Pattern {
-        care: p.care,
-        value: p.value,
-    };
-    let g = Pattern {
-        care: f.care,
-        value: f.value,
-    };
-    q.agrees(g) && !p.within(f)
+    p.agrees(f) && !p.within(f)
 }
 
 // Entry `i` is divided by the filter; the new number of entries.
@@ -196,23 +173,10 @@ fn sift_one(
     let care = cares[i];
     let value = values[i];
     let p = Pattern { care, value };
-    let q = Pattern { care, value };
-    let g = Pattern {
-        care: f.care,
-        value: f.value,
-    };
-    if is_cut(q, g) {
+    if is_cut(p, f) {
         let part = p.common(f);
-        let whole = Pattern {
-            care: part.care,
-            value: part.value,
-        };
-        let again = Pattern {
-            care: part.care,
-            value: part.value,
-        };
-        let h = whole.held(width);
-        let s = within_sum(cares, values, sizes, i + 1, m, again);
+        let h = part.held(width);
+        let s = within_sum(cares, values, sizes, i + 1, m, part);
         return move_part(cares, values, sizes, i, m, part, h - s);
     }
     m
@@ -238,11 +202,7 @@ fn take_in(
     let mut i = n;
     while 0 < i {
         i = i - 1;
-        let g = Pattern {
-            care: f.care,
-            value: f.value,
-        };
-        m = sift_one(cares, values, sizes, i, m, width, g);
+        m = sift_one(cares, values, sizes, i, m, width, f);
     }
     m
 }
@@ -258,11 +218,7 @@ fn cover_of(fcares: &[u32], fvalues: &[u32], count: usize, f: Pattern) -> u32
     while j < count {
         let care = fcares[j];
         let value = fvalues[j];
-        let g = Pattern {
-            care: f.care,
-            value: f.value,
-        };
-        if g.within(Pattern { care, value }) {
+        if f.within(Pattern { care, value }) {
             all = all | care;
         }
         j = j + 1;
@@ -293,8 +249,7 @@ pub fn take_next(
     let care = fcares[j];
     let value = fvalues[j];
     let f = Pattern { care, value };
-    let g = Pattern { care, value };
-    if cover_of(fcares, fvalues, j, g) == f.care {
+    if cover_of(fcares, fvalues, j, f) == f.care {
         return n;
     }
     take_in(cares, values, sizes, n, width, f)

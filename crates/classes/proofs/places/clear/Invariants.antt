@@ -1,9 +1,7 @@
 -- `classes::places::clear` meets its contract. The loop's invariant: in each list the places from `from` to before j are cleared.
 use Prim.Native.Nat.{◌≤◌, ◌-◌}
-use native.Mathlib.Nat.{le_refl}
-use native.Mathlib.Omega.{arith}
 use Rattle.classes.specs.Steps.{Each}
-use Rattle.classes.proofs.Shifts.{Clearing, clearing_start, clearing_step, clearing_end}
+use Rattle.classes.proofs.Shifts.{Clearing}
 use Rattle.classes.proofs.places.clear.Given as goal
 
 abbrev pub invariant-loop-j : goal.invariant-loop-j

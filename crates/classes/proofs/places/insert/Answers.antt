@@ -1,11 +1,6 @@
 -- `classes::places::insert` meets its contract. The loop's invariant: in each list those from j on have moved.
-use mathlib.Core.Path.{◌∙◌}
-use Prim.Native.Nat.{◌≤◌, ◌-◌}
-use native.Mathlib.Nat.{le_refl}
 use native.Mathlib.Omega.{arith}
-use lib.ListN.{length-set}
-use Rattle.classes.specs.Steps.{Each}
-use Rattle.classes.proofs.Shifts.{Rising, rising_start, rising_step, rising_end}
+use Rattle.classes.proofs.Shifts.{rising_end}
 use Rattle.classes.proofs.places.insert.Goals as goal
 
 pub returns : goal.returns

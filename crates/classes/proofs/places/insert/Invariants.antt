@@ -1,11 +1,7 @@
 -- `classes::places::insert` meets its contract. The loop's invariant: in each list those from j on have moved.
-use mathlib.Core.Path.{◌∙◌}
-use Prim.Native.Nat.{◌≤◌, ◌-◌}
-use native.Mathlib.Nat.{le_refl}
-use native.Mathlib.Omega.{arith}
-use lib.ListN.{length-set}
+use Prim.Native.Nat.{◌≤◌}
 use Rattle.classes.specs.Steps.{Each}
-use Rattle.classes.proofs.Shifts.{Rising, rising_start, rising_step, rising_end}
+use Rattle.classes.proofs.Shifts.{Rising}
 use Rattle.classes.proofs.places.insert.Given as goal
 
 abbrev pub invariant-loop-j : goal.invariant-loop-j

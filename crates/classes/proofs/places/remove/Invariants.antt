@@ -1,9 +1,7 @@
 -- `classes::places::remove` meets its contract. The loop's invariant: in each list those from i to before j have moved.
 use Prim.Native.Nat.{◌≤◌, ◌<◌, ◌-◌}
-use native.Mathlib.Nat.{le_refl}
-use native.Mathlib.Omega.{arith}
 use Rattle.classes.specs.Steps.{Each}
-use Rattle.classes.proofs.Shifts.{Falling, falling_start, falling_step, falling_end}
+use Rattle.classes.proofs.Shifts.{Falling}
 use Rattle.classes.proofs.places.remove.Given as goal
 
 abbrev pub invariant-loop-j : goal.invariant-loop-j

@@ -2,7 +2,6 @@
 use mathlib.Core.Path.{sym, ◌∙◌}
 use native.Mathlib.Omega.{arith}
 use Rattle.classes.proofs.Steps.{add_there, add_fits, add_new}
-use borrow.Author.Rules.{rules}
 use Rattle.classes.proofs.taking.add_entry.Goals as goal
 
 pub overflow_add-sizes : goal.overflow_add-sizes

@@ -1,25 +1,18 @@
 -- `classes::taking::cover_of` meets its contract. The loop's invariant: what is gathered and what is still to come make the whole.
-use mathlib.Core.Path.{◌≡◌, sym, ◌∙◌}
-use mathlib.Core.Logic.{⊎_elim}
-use Prim.Native.Nat.{◌-◌, ◌≤◌}
+use mathlib.Core.Path.{sym, ◌∙◌}
 use native.Mathlib.Omega.{arith}
-use lib.Bits.{bit_or}
-use Rattle.classes.specs.Given.{patterns_from}
-use Rattle.classes.specs.Steps.{cover}
-use borrow.Author.Rules.{rules}
-use Rattle.classes.proofs.Rows.{cover-start, cover_in, cover_out, cover_end}
+use Rattle.classes.proofs.Rows.{cover_in, cover_out, cover_end}
 use Rattle.classes.proofs.taking.cover_of.Goals as goal
 use Rattle.classes.proofs.taking.cover_of.Goals.{then-within, else-within}
 
 pub loop-j-preserved : goal.loop-j-preserved
-loop-j-preserved c =
-    (
-      omega arith,
-      elim c.if-within.branch [
-        then-within w ↦ cover_in c.args.f c.args.fcares.now c.args.fvalues.now c.loop-j.j c.args.count c.loop-j.all c.if-within.all c.loop-j-test.true (sym w.if-within.true ∙ c.within.ensures) w.all-is ∙ c.loop-j.invariant.1
-      | else-within w ↦ cover_out c.args.f c.args.fcares.now c.args.fvalues.now c.loop-j.j c.args.count c.loop-j.all c.if-within.all c.loop-j-test.true (sym w.if-within.false ∙ c.within.ensures) w.all-is ∙ c.loop-j.invariant.1
-      ],
-    )
+loop-j-preserved c = (
+  omega arith,
+  elim c.if-within.branch [
+    | then-within w ↦ cover_in c.args.f c.args.fcares.now c.args.fvalues.now c.loop-j.j c.args.count c.loop-j.all c.if-within.all c.loop-j-test.true (sym w.if-within.true ∙ c.within.ensures) w.all-is ∙ c.loop-j.invariant.1
+    | else-within w ↦ cover_out c.args.f c.args.fcares.now c.args.fvalues.now c.loop-j.j c.args.count c.loop-j.all c.if-within.all c.loop-j-test.true (sym w.if-within.false ∙ c.within.ensures) w.all-is ∙ c.loop-j.invariant.1
+  ],
+)
 
 pub returns : goal.returns
 returns c =

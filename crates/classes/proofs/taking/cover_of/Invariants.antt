@@ -1,13 +1,9 @@
 -- `classes::taking::cover_of` meets its contract. The loop's invariant: what is gathered and what is still to come make the whole.
-use mathlib.Core.Path.{◌≡◌, sym, ◌∙◌}
-use mathlib.Core.Logic.{⊎_elim}
+use mathlib.Core.Path.{◌≡◌}
 use Prim.Native.Nat.{◌-◌, ◌≤◌}
-use native.Mathlib.Omega.{arith}
 use lib.Bits.{bit_or}
 use Rattle.classes.specs.Given.{patterns_from}
 use Rattle.classes.specs.Steps.{cover}
-use borrow.Author.Rules.{rules}
-use Rattle.classes.proofs.Rows.{cover-start, cover_in, cover_out, cover_end}
 use Rattle.classes.proofs.taking.cover_of.Given as goal
 
 abbrev pub invariant-loop-j : goal.invariant-loop-j

@@ -1,11 +1,8 @@
 -- `classes::taking::place` meets its contract. The loop's invariant: all entries passed come before the pattern.
-use mathlib.Core.Path.{sym, ◌∙◌, subst}
 use Prim.Native.Nat.{ℕ, ◌-◌, ◌≤◌, ◌<◌}
-use native.Mathlib.Omega.{arith}
 use lib.Dec.{T}
 use Rattle.classes.specs.Classes.{before}
 use Rattle.classes.specs.Given.{pattern_at}
-use Rattle.classes.proofs.Rows.{passed_more}
 use Rattle.classes.proofs.taking.place.Given as goal
 
 abbrev pub invariant-loop-j : goal.invariant-loop-j

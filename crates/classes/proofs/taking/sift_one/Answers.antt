@@ -1,21 +1,23 @@
 -- `classes::taking::sift_one` meets its contract: an entry that the filter cuts is parted, and any other stays.
-use mathlib.Core.Path.{sym, ap₂, ◌∙◌}
-use Prim.Native.Nat.{ℕ, ◌-◌}
+use mathlib.Core.Path.{sym, ◌∙◌}
 use native.Mathlib.Nat.{le_trans}
 use native.Mathlib.Omega.{arith}
-use borrow.Author.Rules.{rules}
-use Rattle.classes.proofs.Steps.{sift_stays, sift_moves, parting}
+use Rattle.classes.proofs.Steps.{sift_stays, parting}
 use Rattle.classes.proofs.taking.sift_one.Goals as goal
 
 pub held-h-requires-clause-inside : goal.held-h-requires-clause-inside
-held-h-requires-clause-inside c = let g =
+held-h-requires-clause-inside c =
+    let g =
     parting c.args.width c.args.f c.args.cares.now c.args.values.now c.args.sizes.now c.args.i c.args.m c.common-part.result (c.requires.short, (c.requires.bits, c.requires.sound))
-    (sym c.if-is_cut.true ∙ c.is_cut.ensures) c.common-part.ensures in g.bits
+    (sym c.if-is_cut.true ∙ c.is_cut.ensures) c.common-part.ensures in
+    g.bits
 
 pub within_sum-s-requires-clause-bound : goal.within_sum-s-requires-clause-bound
-within_sum-s-requires-clause-bound c = let g =
+within_sum-s-requires-clause-bound c =
+    let g =
     parting c.args.width c.args.f c.args.cares.now c.args.values.now c.args.sizes.now c.args.i c.args.m c.common-part.result (c.requires.short, (c.requires.bits, c.requires.sound))
-    (sym c.if-is_cut.true ∙ c.is_cut.ensures) c.common-part.ensures in le_trans g.held_more g.few
+    (sym c.if-is_cut.true ∙ c.is_cut.ensures) c.common-part.ensures in
+    le_trans g.held_more g.few
 
 pub overflow_sub-h : goal.overflow_sub-h
 overflow_sub-h c =
@@ -25,9 +27,11 @@ overflow_sub-h c =
     omega (arith, g.held_more, c.held-h.ensures, c.within_sum-s.ensures)
 
 pub move_part-requires-clause-fewer : goal.move_part-requires-clause-fewer
-move_part-requires-clause-fewer c = let g =
+move_part-requires-clause-fewer c =
+    let g =
     parting c.args.width c.args.f c.args.cares.now c.args.values.now c.args.sizes.now c.args.i c.args.m c.common-part.result (c.requires.short, (c.requires.bits, c.requires.sound))
-    (sym c.if-is_cut.true ∙ c.is_cut.ensures) c.common-part.ensures in omega (arith, g.size_more, c.held-h.ensures, c.within_sum-s.ensures)
+    (sym c.if-is_cut.true ∙ c.is_cut.ensures) c.common-part.ensures in
+    omega (arith, g.size_more, c.held-h.ensures, c.within_sum-s.ensures)
 
 pub returns : goal.returns
 returns c =

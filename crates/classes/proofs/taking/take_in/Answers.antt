@@ -1,7 +1,7 @@
 -- `classes::taking::take_in` meets its contract. The loop's invariant: the entries from i on are sifted, those below are as they were.
 use Prim.Native.Nat.{◌-◌}
 use native.Mathlib.Omega.{arith}
-use Rattle.classes.proofs.Steps.{Sifting, sifting_start, sifting_sound, sifting_step, sifting_took}
+use Rattle.classes.proofs.Steps.{sifting_start, sifting_sound, sifting_step}
 use Rattle.classes.proofs.taking.take_in.Goals as goal
 
 pub loop-i-init : goal.loop-i-init
@@ -9,9 +9,9 @@ loop-i-init c =
     sifting_start c.args.width c.args.f c.args.n c.args.cares.now c.args.values.now c.args.sizes.now
 
 pub sift_one-m-requires-clause-sound : goal.sift_one-m-requires-clause-sound
-sift_one-m-requires-clause-sound c = let sound =
+sift_one-m-requires-clause-sound c =
     sifting_sound c.args.width c.args.f (c.loop-i.i - 1) c.loop-i.i c.args.n c.loop-i.m c.loop-i.cares c.loop-i.values c.loop-i.sizes c.args.cares.now c.args.values.now c.args.sizes.now
-    (omega arith) c.loop-i.invariant c.requires.sound in sound
+    (omega arith) c.loop-i.invariant c.requires.sound
 
 pub loop-i-preserved : goal.loop-i-preserved
 loop-i-preserved c =

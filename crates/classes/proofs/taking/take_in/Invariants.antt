@@ -1,7 +1,5 @@
 -- `classes::taking::take_in` meets its contract. The loop's invariant: the entries from i on are sifted, those below are as they were.
-use Prim.Native.Nat.{◌-◌}
-use native.Mathlib.Omega.{arith}
-use Rattle.classes.proofs.Steps.{Sifting, sifting_start, sifting_sound, sifting_step, sifting_took}
+use Rattle.classes.proofs.Steps.{Sifting}
 use Rattle.classes.proofs.taking.take_in.Given as goal
 
 abbrev pub invariant-loop-i : goal.invariant-loop-i

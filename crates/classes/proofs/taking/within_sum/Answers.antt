@@ -1,12 +1,8 @@
 -- `classes::taking::within_sum` meets its contract. The loop's invariant: what is summed and what is still to come make the whole.
-use mathlib.Core.Path.{◌≡◌, sym, ◌∙◌}
-use mathlib.Core.Logic.{⊎_elim}
+use mathlib.Core.Path.{sym, ◌∙◌}
 use mathlib.Core.Bool.{true, false}
-use Prim.Native.Nat.{◌+◌, ◌-◌, ◌≤◌}
 use native.Mathlib.Omega.{arith}
 use Rattle.pattern.specs.Filters.{within}
-use Rattle.classes.specs.Steps.{sum_if, rows}
-use borrow.Author.Rules.{rules}
 use Rattle.classes.proofs.Rows.{sum_step, sum_end}
 use Rattle.classes.proofs.taking.within_sum.Goals as goal
 use Rattle.classes.proofs.taking.within_sum.Goals.{then-within, else-within}
@@ -21,24 +17,23 @@ overflow_add-sum c =
     )
 
 pub loop-j-preserved : goal.loop-j-preserved
-loop-j-preserved c =
-    (
-      omega arith,
-      elim c.if-within.branch [
-        then-within w ↦ omega (
-          arith,
-          w.sum-is,
-          sum_step (λ q. within q c.args.p) c.args.cares.now c.args.values.now c.args.sizes.now _ _ c.loop-j-test.true true (sym w.if-within.true ∙ c.within.ensures),
-          c.loop-j.invariant.1,
-        )
-      | else-within w ↦ omega (
-          arith,
-          w.sum-is,
-          sum_step (λ q. within q c.args.p) c.args.cares.now c.args.values.now c.args.sizes.now _ _ c.loop-j-test.true false (sym w.if-within.false ∙ c.within.ensures),
-          c.loop-j.invariant.1,
-        )
-      ],
+loop-j-preserved c = (
+  omega arith,
+  elim c.if-within.branch [
+    | then-within w ↦ omega (
+      arith,
+      w.sum-is,
+      sum_step (λ q. within q c.args.p) c.args.cares.now c.args.values.now c.args.sizes.now _ _ c.loop-j-test.true true (sym w.if-within.true ∙ c.within.ensures),
+      c.loop-j.invariant.1,
     )
+    | else-within w ↦ omega (
+      arith,
+      w.sum-is,
+      sum_step (λ q. within q c.args.p) c.args.cares.now c.args.values.now c.args.sizes.now _ _ c.loop-j-test.true false (sym w.if-within.false ∙ c.within.ensures),
+      c.loop-j.invariant.1,
+    )
+  ],
+)
 
 pub returns : goal.returns
 returns c =

@@ -1,13 +1,8 @@
 -- `classes::taking::within_sum` meets its contract. The loop's invariant: what is summed and what is still to come make the whole.
-use mathlib.Core.Path.{◌≡◌, sym, ◌∙◌}
-use mathlib.Core.Logic.{⊎_elim}
-use mathlib.Core.Bool.{true, false}
+use mathlib.Core.Path.{◌≡◌}
 use Prim.Native.Nat.{◌+◌, ◌-◌, ◌≤◌}
-use native.Mathlib.Omega.{arith}
 use Rattle.pattern.specs.Filters.{within}
 use Rattle.classes.specs.Steps.{sum_if, rows}
-use borrow.Author.Rules.{rules}
-use Rattle.classes.proofs.Rows.{sum_step, sum_end}
 use Rattle.classes.proofs.taking.within_sum.Given as goal
 
 abbrev pub invariant-loop-j : goal.invariant-loop-j
