@@ -10,6 +10,7 @@ use native.Mathlib.Omega.{arith}
 use lib.ListN.{length, get_or, set, replicate, length-replicate, get_or-replicate, length-set}
 use lib.Seq.{get_or-set_same, get_or-set_other}
 use lib.Dec.{eqb}
+use lib.Pow.{pow_pos}
 use borrow.Author.Tests.{eq-eqb, ne_eqb, lt-ltb, le-ltb}
 use Rattle.pattern.specs.Filters.{hits}
 use Rattle.reading.specs.declared.Action.{Action}
@@ -167,6 +168,10 @@ pub ends_late : (acts : ℕ → Action) (n start : ℕ) (seen : List ℕ) (node 
 ends_late acts n start seen node hops h e = h.rest ∙ on_none acts n h.met node hops (omega arith)
 
 -- ---- the checks before it
+
+-- No width is without a header.
+pub some_header : (w : ℕ) → 0 < 2 ^ w
+some_header w = pow_pos w
 
 module _ (acts : ℕ → Action) (w n header start : ℕ) where
   pub by_14 : 2 ^ w ≤ header → walk_by acts w n header start ≡ Refused 14 0

@@ -79,6 +79,7 @@ fn follow(
 }
 
 // The checks of the header and of the start node, then the walk.
+#[tactic(auto, using(crate::proofs::WalkSteps::some_header, crate::proofs::WalkSteps::by_14, crate::proofs::WalkSteps::by_15, crate::proofs::WalkSteps::by_walk))]
 fn walk_read(
     cares: &[u32; 256],
     values: &[u32; 256],
