@@ -1,9 +1,6 @@
 -- `printing::line_count` meets its contract.
-use mathlib.Core.Path.{sym, subst}
-use native.Mathlib.Omega.{arith}
-use borrow.Author.Rules.{rules}
-use Rattle.printing.specs.Asked.{Bounded}
-use Rattle.printing.proofs.Lines.{refused_length, judged_length}
+use mathlib.Core.Path.{sym}
+use Rattle.printing.proofs.Lines.{judged_length}
 use Rattle.printing.proofs.line_count.Goals as goal
 
 pub returns-in-Judged : goal.returns-in-Judged

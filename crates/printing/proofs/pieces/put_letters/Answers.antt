@@ -1,25 +1,15 @@
 -- `printing::pieces::put_letters` meets its contract. The invariant: the letters of the lower bits have still to be put.
-use Prim.Native.Nat.{◌-◌, ◌≤◌, ◌<◌}
-use native.Mathlib.Nat.{sub-zero}
+use Prim.Native.Nat.{◌-◌}
 use native.Mathlib.Omega.{arith}
-use lib.ListN.{length}
-use Rattle.printing.specs.Text.{letters}
 use Rattle.printing.proofs.Letters.{letters-length, letters_next, letters_none}
-use Rattle.printing.proofs.Writing.{Left, left_all, left_byte, left_none}
+use Rattle.printing.proofs.Writing.{left_byte, left_none}
 use Rattle.printing.proofs.pieces.put_letters.Goals as goal
 
--- There is room for one letter more.
-room : (c : tie.After-letter invariant-loop decreases-loop) → c.before.before.loop.next < length c.before.before.loop.out
-room c =
-    let a = c.before.before.before.before.args in
-    let l = c.before.before.loop in
-    omega (arith, l.invariant.0.end, l.invariant.0.same, letters-length (a.width - l.k) a.pattern, letters-length a.width a.pattern)
-
 pub bounds-out-next : goal.bounds-out-next
-bounds-out-next c = room c
+bounds-out-next c = omega (arith, c.loop-k.invariant.0.end, c.loop-k.invariant.0.same, letters-length (c.args.width - c.loop-k.k) c.args.pattern, letters-length c.args.width c.args.pattern)
 
 pub overflow_add-next : goal.overflow_add-next
-overflow_add-next c = omega (arith, room c, c.loop-k.invariant.0.same)
+overflow_add-next c = omega (arith, c.loop-k.invariant.0.end, c.loop-k.invariant.0.same, letters-length (c.args.width - c.loop-k.k) c.args.pattern, letters-length c.args.width c.args.pattern)
 
 pub loop-k-preserved : goal.loop-k-preserved
 loop-k-preserved c =

@@ -1,11 +1,7 @@
 -- `printing::pieces::put_letters` meets its contract. The invariant: the letters of the lower bits have still to be put.
-use Prim.Native.Nat.{◌-◌, ◌≤◌, ◌<◌}
-use native.Mathlib.Nat.{sub-zero}
-use native.Mathlib.Omega.{arith}
-use lib.ListN.{length}
+use Prim.Native.Nat.{◌-◌, ◌≤◌}
 use Rattle.printing.specs.Text.{letters}
-use Rattle.printing.proofs.Letters.{letters-length, letters_next, letters_none}
-use Rattle.printing.proofs.Writing.{Left, left_all, left_byte, left_none}
+use Rattle.printing.proofs.Writing.{Left}
 use Rattle.printing.proofs.pieces.put_letters.Given as goal
 
 abbrev pub invariant-loop-k : goal.invariant-loop-k

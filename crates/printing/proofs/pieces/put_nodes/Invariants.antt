@@ -1,13 +1,8 @@
 -- `printing::pieces::put_nodes` meets its contract. The invariant: the nodes from i on have still to be put, and each node before took at most 4 bytes.
-use Prim.Native.Nat.{◌+◌, ◌*◌, ◌-◌, ◌≤◌, ◌<◌}
-use mathlib.Core.Path.{refl}
-use native.Mathlib.Omega.{arith}
-use lib.ListN.{length, drop, get_or}
-use Rattle.printing.specs.Text.{word}
+use Prim.Native.Nat.{◌+◌, ◌*◌, ◌-◌, ◌≤◌}
+use lib.ListN.{length, drop}
 use Rattle.printing.specs.Lines.{nodes}
-use Rattle.printing.proofs.Nodes.{nodes_none, nodes_ended, nodes_next}
-use Rattle.printing.proofs.Numbers.{byte_length, byte_reach}
-use Rattle.printing.proofs.Writing.{Left, left_all, left_piece, left_none}
+use Rattle.printing.proofs.Writing.{Left}
 use Rattle.printing.proofs.pieces.put_nodes.Given as goal
 
 abbrev pub invariant-loop-i : goal.invariant-loop-i

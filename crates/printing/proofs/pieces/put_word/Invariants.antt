@@ -1,10 +1,7 @@
 -- `printing::pieces::put_word` meets its contract. The invariant: what is left of the word has still to be put.
-use Prim.Native.Nat.{◌-◌, ◌≤◌, ◌<◌}
-use native.Mathlib.Numerals.{add-one}
-use native.Mathlib.Omega.{arith}
-use lib.ListN.{length, drop, length-drop, drop_of_length-le}
-use lib.Seq.{drop-cons}
-use Rattle.printing.proofs.Writing.{Left, left_all, left_byte, left_none}
+use Prim.Native.Nat.{◌-◌, ◌≤◌}
+use lib.ListN.{length, drop}
+use Rattle.printing.proofs.Writing.{Left}
 use Rattle.printing.proofs.pieces.put_word.Given as goal
 
 abbrev pub invariant-loop-i : goal.invariant-loop-i
