@@ -1,5 +1,5 @@
 // The calls of Lanecompass for programs in C and other languages: each takes numbers and slices, returns a number, and writes
-// six figures to a lent list. include/lanecompass.h is the same for a reader of C.
+// six figures to a lent list. include/lanecompass.h is the same for a reader of C. The crate desk_c exports them.
 #![tactic(auto)]
 
 ghost use Rattle.std.specs.Prelude.{◌≡◌, ◌++◌, ◌≤◌, length, drop};
@@ -105,8 +105,7 @@ fn put_walk(out: &mut [u64], answer: WalkAnswer) -> u8
 }
 
 // Read: width, node count and rule count.
-#[unsafe(no_mangle)]
-pub extern "C" fn lanecompass_read(file: &[u8], out: &mut [u64]) -> u8
+pub fn lanecompass_read(file: &[u8], out: &mut [u64]) -> u8
     ensures number { result ≡ returned (read_sheet (read_of file.now)) out.old }
     ensures out { out.new ≡ laid (read_sheet (read_of file.now)) out.old }
 {
@@ -117,8 +116,7 @@ pub extern "C" fn lanecompass_read(file: &[u8], out: &mut [u64]) -> u8
 }
 
 // Judge: the same, the class count and the verdict; the class list and the cycle in the lent lists.
-#[unsafe(no_mangle)]
-pub extern "C" fn lanecompass_judge(
+pub fn lanecompass_judge(
     file: &[u8],
     cares: &mut [u32],
     values: &mut [u32],
@@ -140,8 +138,7 @@ pub extern "C" fn lanecompass_judge(
 }
 
 // Walk: the outcome, the node and the hops.
-#[unsafe(no_mangle)]
-pub extern "C" fn lanecompass_walk(file: &[u8], header: u64, start: u8, out: &mut [u64]) -> u8
+pub fn lanecompass_walk(file: &[u8], header: u64, start: u8, out: &mut [u64]) -> u8
     ensures number { result ≡ returned (walk_sheet (walk_of file.now header start)) out.old }
     ensures out { out.new ≡ laid (walk_sheet (walk_of file.now header start)) out.old }
 {
