@@ -1,6 +1,6 @@
 /* Lanecompass: a checker for forwarding tables whose answers are proved.
  *
- * The library is target/staticlib/libdesk.a, for x86-64 Linux (`rt staticlib desk` proves it and writes it). It keeps
+ * The library is target/staticlib/libdesk.a, for x86-64 Linux (`./lanecompass library` proves it and writes it). It keeps
  * nothing between calls, allocates nothing and calls nothing outside itself but C's memset. Calls may run at the same
  * time, on one file too, if no list is lent to two of them.
  *
@@ -83,7 +83,7 @@ uint8_t lanecompass_read(const uint8_t *file, size_t file_len, uint64_t *out, si
  * 0 free and 1 loop, and out[5] the least header that goes round, 0 when free. cares[i], values[i] and sizes[i] are class
  * i's care mask, value and number of headers, ordered by care mask, then value; from the class count to 1,023 they are 0.
  * A one of a care mask is a bit that must match. A header's class is the last i below the class count for which
- * (header & cares[i]) == values[i] (`home-last` in classes/proofs/Demand3). cycle begins with the nodes of the least
+ * (header & cares[i]) == values[i] (`home_last` in classes/proofs/Demand3). cycle begins with the nodes of the least
  * header's cycle, from the lowest numbered node on any cycle of it and each node once; the rest of the first 64 entries are
  * 255, and all 64 when free.
  * After 12: the first 1,024 entries of the three lists are 0, and the first 64 of cycle 255.

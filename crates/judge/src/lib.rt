@@ -62,7 +62,8 @@ fn judge_read(
     ensures cycle { cycle.new ≡ (judged_of (network_of file.now) (lent_of cares.old values.old sizes.old cycle.old)).lent.cycle }
 {
     let n = classes::build(fcares, fvalues, rules, width, cares, values, sizes);
-    if n == 0 {
+    let none = n == 0;
+    if none {
         rounds::fill_rest(cycle, 0);
         return JudgeAnswer::Refused {
             number: 12,

@@ -6,7 +6,8 @@ use Rattle.judge.proofs.judge.Goals as goal
 
 pub returns-then-short_by : goal.returns-then-short_by
 returns-then-short_by c =
-    let old : Lent = lent_of c.args.cares.now c.args.values.now c.args.sizes.now c.args.cycle.now in let j = judge_short c.args.file.now old (sym c.if-short_by.true ∙ c.short_by.ensures) in
+    let old : Lent = lent_of c.args.cares.now c.args.values.now c.args.sizes.now c.args.cycle.now in
+    let j = judge_short c.args.file.now old (sym c.if-short_by.true ∙ c.short_by.ensures) in
     record {
       answer = sym (ap (λ (x : Judgement). x.answer) j);
       cares = sym (ap (λ (x : Judgement). x.lent.cares) j);
@@ -17,7 +18,8 @@ returns-then-short_by c =
 
 pub returns : goal.returns
 returns c =
-    let old : Lent = lent_of c.args.cares.now c.args.values.now c.args.sizes.now c.args.cycle.now in let j = judge_long c.args.file.now old (sym c.if-short_by.false ∙ c.short_by.ensures) in
+    let old : Lent = lent_of c.args.cares.now c.args.values.now c.args.sizes.now c.args.cycle.now in
+    let j = judge_long c.args.file.now old (sym c.if-short_by.false ∙ c.short_by.ensures) in
     record {
       answer = c.judge_lent.ensures.answer ∙ sym (ap (λ (x : Judgement). x.answer) j);
       cares = c.judge_lent.ensures.cares ∙ sym (ap (λ (x : Judgement). x.lent.cares) j);

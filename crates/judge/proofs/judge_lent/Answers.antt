@@ -8,7 +8,8 @@ use Rattle.judge.proofs.judge_lent.Goals as goal
 
 pub judge_read-requires : goal.judge_read-requires
 judge_read-requires c =
-    let t = told c.args.file.now c.in-Accepted.width c.in-Accepted.nodes c.in-Accepted.rules (sym c.in-Accepted.is ∙ c.fill-read.ensures.answer) in let few = rules_fit c.args.file.now c.in-Accepted.width c.in-Accepted.nodes c.in-Accepted.rules t in
+    let t = told c.args.file.now c.in-Accepted.width c.in-Accepted.nodes c.in-Accepted.rules (sym c.in-Accepted.is ∙ c.fill-read.ensures.answer) in
+    let few = rules_fit c.args.file.now c.in-Accepted.width c.in-Accepted.nodes c.in-Accepted.rules t in
     record {
       read = read_here c.args.file.now c.in-Accepted.width c.in-Accepted.nodes c.in-Accepted.rules t c.fill-read.new.cares c.fill-read.new.values c.fill-read.new.begins c.fill-read.ensures.cares c.fill-read.ensures.values c.fill-read.ensures.begins;
       fcares = omega (arith, few, ap length c.fill-read.ensures.cares ∙ cares_length c.args.file.now c.in-Accepted.width c.in-Accepted.nodes c.in-Accepted.rules t);
@@ -21,7 +22,9 @@ judge_read-requires c =
 
 pub returns-in-Accepted : goal.returns-in-Accepted
 returns-in-Accepted c =
-    let old : Lent = lent_of c.args.cares.now c.args.values.now c.args.sizes.now c.args.cycle.now in let t = told c.args.file.now c.in-Accepted.width c.in-Accepted.nodes c.in-Accepted.rules (sym c.in-Accepted.is ∙ c.fill-read.ensures.answer) in let j = goes_on c.args.file.now c.in-Accepted.width c.in-Accepted.nodes c.in-Accepted.rules t old in
+    let old : Lent = lent_of c.args.cares.now c.args.values.now c.args.sizes.now c.args.cycle.now in
+    let t = told c.args.file.now c.in-Accepted.width c.in-Accepted.nodes c.in-Accepted.rules (sym c.in-Accepted.is ∙ c.fill-read.ensures.answer) in
+    let j = goes_on c.args.file.now c.in-Accepted.width c.in-Accepted.nodes c.in-Accepted.rules t old in
     record {
       answer = c.judge_read.ensures.answer ∙ sym (ap (λ (x : Judgement). x.answer) j);
       cares = c.judge_read.ensures.cares ∙ sym (ap (λ (x : Judgement). x.lent.cares) j);

@@ -11,10 +11,16 @@ loop-i-init c =
     (omega arith, refl, done_none c.args.width c.args.prefix c.args.cares.now c.args.values.now c.args.n c.args.counts.now)
 
 pub count_at-count-requires-clause-bits : goal.count_at-count-requires-clause-bits
-count_at-count-requires-clause-bits c = let gone = back c.loop-i.i c.loop-i-test.true in let care = turn_care c.args.width c.args.prefix c.args.cares.now c.args.values.now c.args.n c.loop-i.counts (c.loop-i.i - 1) c.loop-i.i gone c.loop-i.invariant.0 c.requires.enough c.loop-i.invariant.2 in let enough = turn_bound c.args.width c.args.prefix c.args.cares.now c.args.values.now c.args.n c.loop-i.counts (c.loop-i.i - 1) c.loop-i.i gone c.loop-i.invariant.0 c.requires.enough c.loop-i.invariant.2 in care
+count_at-count-requires-clause-bits c =
+    let gone = back c.loop-i.i c.loop-i-test.true in
+    let care = turn_care c.args.width c.args.prefix c.args.cares.now c.args.values.now c.args.n c.loop-i.counts (c.loop-i.i - 1) c.loop-i.i gone c.loop-i.invariant.0 c.requires.enough c.loop-i.invariant.2 in
+    let enough = turn_bound c.args.width c.args.prefix c.args.cares.now c.args.values.now c.args.n c.loop-i.counts (c.loop-i.i - 1) c.loop-i.i gone c.loop-i.invariant.0 c.requires.enough c.loop-i.invariant.2 in care
 
 pub count_at-count-requires-clause-enough : goal.count_at-count-requires-clause-enough
-count_at-count-requires-clause-enough c = let gone = back c.loop-i.i c.loop-i-test.true in let care = turn_care c.args.width c.args.prefix c.args.cares.now c.args.values.now c.args.n c.loop-i.counts (c.loop-i.i - 1) c.loop-i.i gone c.loop-i.invariant.0 c.requires.enough c.loop-i.invariant.2 in let enough = turn_bound c.args.width c.args.prefix c.args.cares.now c.args.values.now c.args.n c.loop-i.counts (c.loop-i.i - 1) c.loop-i.i gone c.loop-i.invariant.0 c.requires.enough c.loop-i.invariant.2 in enough
+count_at-count-requires-clause-enough c =
+    let gone = back c.loop-i.i c.loop-i-test.true in
+    let care = turn_care c.args.width c.args.prefix c.args.cares.now c.args.values.now c.args.n c.loop-i.counts (c.loop-i.i - 1) c.loop-i.i gone c.loop-i.invariant.0 c.requires.enough c.loop-i.invariant.2 in
+    let enough = turn_bound c.args.width c.args.prefix c.args.cares.now c.args.values.now c.args.n c.loop-i.counts (c.loop-i.i - 1) c.loop-i.i gone c.loop-i.invariant.0 c.requires.enough c.loop-i.invariant.2 in enough
 
 pub loop-i-preserved : goal.loop-i-preserved
 loop-i-preserved c = (

@@ -16,10 +16,12 @@ overflow_add-care c = record {
 }
 
 pub some_under-requires-clause-prefix : goal.some_under-requires-clause-prefix
-some_under-requires-clause-prefix c = let good = asked_formed c.loop-left.invariant.1 c.loop-left-test.true c.bit_at-bit.ensures in good.0
+some_under-requires-clause-prefix c =
+    let good = asked_formed c.loop-left.invariant.1 c.loop-left-test.true c.bit_at-bit.ensures in good.0
 
 pub some_under-requires-clause-enough : goal.some_under-requires-clause-enough
-some_under-requires-clause-enough c = let good = asked_formed c.loop-left.invariant.1 c.loop-left-test.true c.bit_at-bit.ensures in c.requires.enough _ good
+some_under-requires-clause-enough c =
+    let good = asked_formed c.loop-left.invariant.1 c.loop-left-test.true c.bit_at-bit.ensures in c.requires.enough _ good
 
 pub overflow_add-value : goal.overflow_add-value
 overflow_add-value c = record {

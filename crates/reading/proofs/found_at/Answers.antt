@@ -7,10 +7,12 @@ use Rattle.reading.proofs.Others.{no_rule, no_filter}
 use Rattle.reading.proofs.found_at.Goals as goal
 
 pub overflow_add-result : goal.overflow_add-result
-overflow_add-result c = let i = inside_as c.args.part.now c.args.at (sym c.in-Rule.is ∙ c.stands_at.ensures) in omega (arith, i.2)
+overflow_add-result c =
+    let i = inside_as c.args.part.now c.args.at (sym c.in-Rule.is ∙ c.stands_at.ensures) in omega (arith, i.2)
 
 pub overflow_add-result-in-Fine : goal.overflow_add-result-in-Fine
-overflow_add-result-in-Fine c = let i = inside_as c.args.part.now c.args.at (sym c.in-Rule.is ∙ c.stands_at.ensures) in omega (arith, i.0)
+overflow_add-result-in-Fine c =
+    let i = inside_as c.args.part.now c.args.at (sym c.in-Rule.is ∙ c.stands_at.ensures) in omega (arith, i.0)
 
 pub returns-in-Fine : goal.returns-in-Fine
 unfolding found_at

@@ -17,11 +17,19 @@ loop-i-init c =
     (omega arith, omega arith, refl, refl, cyc_first f c.args.n c.args.v, sym (back_first f c.args.n c.args.v) ∙ c.requires.3)
 
 pub returns-then-cur-v-clause-count : goal.returns-then-cur-v-clause-count
-returns-then-cur-v-clause-count c = let f : ℕ → ℕ = next_of c.args.next.now c.args.n in let lt : c.loop-i.i < c.args.n = c.loop-i-test.true in let e : f c.loop-i.cur ≡ c.args.v = next_read c.args.next.now c.args.n c.loop-i.cur c.wide-cur.result c.loop-i.invariant.0 c.wide-cur.ensures ∙ c.if-cur-v.true in let r = put_last c.loop-i.out c.args.out.now (cycle_of f c.args.n c.args.v) c.loop-i.i c.loop-i.cur (omega arith) c.loop-i.invariant.3
+returns-then-cur-v-clause-count c =
+    let f : ℕ → ℕ = next_of c.args.next.now c.args.n in
+    let lt : c.loop-i.i < c.args.n = c.loop-i-test.true in
+    let e : f c.loop-i.cur ≡ c.args.v = next_read c.args.next.now c.args.n c.loop-i.cur c.wide-cur.result c.loop-i.invariant.0 c.wide-cur.ensures ∙ c.if-cur-v.true in
+    let r = put_last c.loop-i.out c.args.out.now (cycle_of f c.args.n c.args.v) c.loop-i.i c.loop-i.cur (omega arith) c.loop-i.invariant.3
     (c.loop-i.invariant.4 ∙ ap (λ t. take c.loop-i.i c.loop-i.out ++ t) (cyc_last f c.args.n c.loop-i.i c.args.v c.loop-i.cur lt e)) in (r.0, omega arith)
 
 pub returns-then-cur-v-clause-written : goal.returns-then-cur-v-clause-written
-returns-then-cur-v-clause-written c = let f : ℕ → ℕ = next_of c.args.next.now c.args.n in let lt : c.loop-i.i < c.args.n = c.loop-i-test.true in let e : f c.loop-i.cur ≡ c.args.v = next_read c.args.next.now c.args.n c.loop-i.cur c.wide-cur.result c.loop-i.invariant.0 c.wide-cur.ensures ∙ c.if-cur-v.true in let r = put_last c.loop-i.out c.args.out.now (cycle_of f c.args.n c.args.v) c.loop-i.i c.loop-i.cur (omega arith) c.loop-i.invariant.3
+returns-then-cur-v-clause-written c =
+    let f : ℕ → ℕ = next_of c.args.next.now c.args.n in
+    let lt : c.loop-i.i < c.args.n = c.loop-i-test.true in
+    let e : f c.loop-i.cur ≡ c.args.v = next_read c.args.next.now c.args.n c.loop-i.cur c.wide-cur.result c.loop-i.invariant.0 c.wide-cur.ensures ∙ c.if-cur-v.true in
+    let r = put_last c.loop-i.out c.args.out.now (cycle_of f c.args.n c.args.v) c.loop-i.i c.loop-i.cur (omega arith) c.loop-i.invariant.3
     (c.loop-i.invariant.4 ∙ ap (λ t. take c.loop-i.i c.loop-i.out ++ t) (cyc_last f c.args.n c.loop-i.i c.args.v c.loop-i.cur lt e)) in r.1
 
 pub loop-i-preserved : goal.loop-i-preserved

@@ -6,7 +6,8 @@ use Rattle.walk.proofs.walk.Goals as goal
 
 pub walk_read-requires : goal.walk_read-requires
 walk_read-requires c =
-    let t = told c.args.file.now c.in-Accepted.width c.in-Accepted.nodes c.in-Accepted.rules (sym c.in-Accepted.is ∙ c.fill-read.ensures.answer) in let w = within_arrays c.args.file.now c.in-Accepted.width c.in-Accepted.nodes c.in-Accepted.rules t c.fill-read.new.cares c.fill-read.new.values c.fill-read.new.actions c.fill-read.new.firsts c.fill-read.ensures.cares c.fill-read.ensures.values c.fill-read.ensures.actions c.fill-read.ensures.firsts in
+    let t = told c.args.file.now c.in-Accepted.width c.in-Accepted.nodes c.in-Accepted.rules (sym c.in-Accepted.is ∙ c.fill-read.ensures.answer) in
+    let w = within_arrays c.args.file.now c.in-Accepted.width c.in-Accepted.nodes c.in-Accepted.rules t c.fill-read.new.cares c.fill-read.new.values c.fill-read.new.actions c.fill-read.new.firsts c.fill-read.ensures.cares c.fill-read.ensures.values c.fill-read.ensures.actions c.fill-read.ensures.firsts in
     record {
       narrow = narrow_width c.args.file.now c.in-Accepted.width c.in-Accepted.nodes c.in-Accepted.rules t;
       few = few_nodes c.args.file.now c.in-Accepted.width c.in-Accepted.nodes c.in-Accepted.rules t;

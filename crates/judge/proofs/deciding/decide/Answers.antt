@@ -15,7 +15,8 @@ least-header-requires-clause-enough c = lists_enough (network_of c.args.file.now
 
 pub returns-then-any_marked : goal.returns-then-any_marked
 returns-then-any_marked c =
-    let net = network_of c.args.file.now in let v = lists_loop net c.args.width c.requires.stands.width c.args.cares.now c.args.values.now c.args.n c.requires.listed c.mark_all.new.marks (replicate 512 0)
+    let net = network_of c.args.file.now in
+    let v = lists_loop net c.args.width c.requires.stands.width c.args.cares.now c.args.values.now c.args.n c.requires.listed c.mark_all.new.marks (replicate 512 0)
     c.mark_all.ensures (sym c.if-any_marked.true ∙ c.any_marked.ensures) in let r : Loop c.least-header.result ≡ verdict_of net = ap Loop c.least-header.ensures ∙ sym v in
     record {
       verdict = r;
@@ -24,7 +25,8 @@ returns-then-any_marked c =
 
 pub returns : goal.returns
 returns c =
-    let net = network_of c.args.file.now in let v = lists_free net c.args.width c.requires.stands.width c.args.cares.now c.args.values.now c.args.n c.requires.listed c.mark_all.new.marks (replicate 512 0)
+    let net = network_of c.args.file.now in
+    let v = lists_free net c.args.width c.requires.stands.width c.args.cares.now c.args.values.now c.args.n c.requires.listed c.mark_all.new.marks (replicate 512 0)
     c.mark_all.ensures (sym c.if-any_marked.false ∙ c.any_marked.ensures) in
     record {
       verdict = sym v;

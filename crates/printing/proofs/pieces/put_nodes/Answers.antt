@@ -9,7 +9,8 @@ use Rattle.printing.proofs.Writing.{left_piece, left_none}
 use Rattle.printing.proofs.pieces.put_nodes.Goals as goal
 
 pub returns-then-node-clause-put : goal.returns-then-node-clause-put
-returns-then-node-clause-put c = let inside : c.loop-i.i < length c.args.cycle.now = omega arith in left_none (omega arith) (rw (nodes_ended c.args.cycle.now c.loop-i.i inside c.if-node.true) at c.loop-i.invariant.0)
+returns-then-node-clause-put c =
+    let inside : c.loop-i.i < length c.args.cycle.now = omega arith in left_none (omega arith) (rw (nodes_ended c.args.cycle.now c.loop-i.i inside c.if-node.true) at c.loop-i.invariant.0)
 
 pub put_named-next-requires : goal.put_named-next-requires
 put_named-next-requires c = omega (arith, c.loop-i.invariant.0.same, byte_length (word " ") (get_or c.args.cycle.now c.loop-i.i 0) (omega (arith, c.type_inv.cycle c.loop-i.i)))

@@ -13,7 +13,8 @@ pub table-requires : goal.table-requires
 table-requires c = omega (arith, inside_as c.args.file.now c.args.st.at (sym c.in-Table.is ∙ c.stands_at.ensures))
 
 pub rule-requires : goal.rule-requires
-rule-requires c = let i = inside_as c.args.file.now c.args.st.at (sym c.in-Rule.is ∙ c.stands_at.ensures) in (omega (arith, i.0), c.requires)
+rule-requires c =
+    let i = inside_as c.args.file.now c.args.st.at (sym c.in-Rule.is ∙ c.stands_at.ensures) in (omega (arith, i.0), c.requires)
 
 pub end-requires : goal.end-requires
 end-requires c = inside_as c.args.file.now c.args.st.at (sym c.in-End.is ∙ c.stands_at.ensures)
