@@ -1,6 +1,6 @@
 /* Lanecompass: a checker for forwarding tables whose answers are proved.
  *
- * The library is target/staticlib/libdesk.a, for x86-64 Linux (`./lanecompass library` proves it and writes it). It keeps
+ * The library is target/staticlib/libdesk.a, for Linux on x86-64-v2 (`./lanecompass library` proves it and writes it). It keeps
  * nothing between calls, allocates nothing and calls nothing outside itself but C's memset. Calls may run at the same
  * time, on one file too, if no list is lent to two of them.
  *

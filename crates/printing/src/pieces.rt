@@ -1,7 +1,7 @@
 // The pieces of a line as bytes in a lent buffer: words, decimal numbers, the letters of a pattern, the nodes of a cycle.
 // Each `put_` function writes its text into `out` from place `at` on and answers the place after it.
 ghost use Rattle.std.specs.Prelude.{◌≡◌, [], ◌∷◌, ◌++◌, ◌+◌, ◌*◌, ◌≤◌, ◌<◌, length};
-ghost use Rattle.printing.specs.Text.{decimal, letters, letter as letterOf};
+ghost use Rattle.printing.specs.Text.{decimal, letters, letter as letter_of};
 ghost use Rattle.printing.specs.Buffer.{Put};
 ghost use Rattle.printing.specs.Lines.{nodes as nodes_of};
 
@@ -44,7 +44,7 @@ pub(crate) fn put_decimal(out: &mut [u8], at: usize, n: u64) -> usize
 // The letter of one bit.
 fn letter(pattern: Pattern, bit: u8) -> u8
     requires { bit < 32 }
-    ensures { result ≡ letterOf pattern bit }
+    ensures { result ≡ letter_of pattern bit }
 {
     if (pattern.care >> bit) % 2 == 0 {
         return b'*';

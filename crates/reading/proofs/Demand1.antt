@@ -13,12 +13,12 @@ use lib.ListN.{length, get_or, take, drop, get_or-append}
 use Rattle.pattern.specs.declared.Pattern.{Pattern}
 use Rattle.pattern.specs.Filters.{WellFormed}
 use Rattle.reading.specs.declared.ReadAnswer.{ReadAnswer}
-use Rattle.reading.specs.declared.ReadAnswer.TheVariants.{Refused as answer-refused}
+use Rattle.reading.specs.declared.ReadAnswer.TheVariants.{Refused as answer_refused}
 use Rattle.reading.specs.declared.Action.{Action}
 use Rattle.reading.specs.declared.Action.TheVariants.{Forward, Drop, Deliver}
 use Rattle.reading.specs.declared.Rule.{Rule}
 use Rattle.reading.specs.declared.records.Case.{Case}
-use Rattle.reading.specs.declared.records.Case.TheVariants.{Network as network-case, Table, Rule as rule-case, End, Unknown}
+use Rattle.reading.specs.declared.records.Case.TheVariants.{Network as network_case, Table, Rule as rule_case, End, Unknown}
 use Rattle.reading.specs.declared.steps.State.{State}
 use Rattle.reading.specs.declared.steps.Step.{Step}
 use Rattle.reading.specs.declared.steps.Step.TheVariants.{Refused, Opened, Begun, Ruled, Ended}
@@ -87,9 +87,9 @@ NotRefused (Ruled next r) = Unit
 NotRefused Ended = Unit
 
 good_case : (s : List ℕ) (st : State) (c : Case) (next : ℕ) → NotRefused (good_at s st c next)
-good_case s st network-case next = tt
+good_case s st network_case next = tt
 good_case s st Table next = tt
-good_case s st (rule-case m d) next = tt
+good_case s st (rule_case m d) next = tt
 good_case s st End next = tt
 good_case s st Unknown next = tt
 
@@ -116,7 +116,7 @@ reading_at {s} (after_table {st = st} r e) = let k = reading_at r in record { fu
 reading_at {s} (after-rule {st = st} r e) = let k = reading_at r in record { fuel = k.fuel - 1; known = known_ruled s k.fuel st k.known e }
 
 -- A file whose first faulty record is decided by this row is refused with its number and place ..
-pub refused_at_the_first_fault : (s : List ℕ) (n p : ℕ) → FirstFault s n p → answer-refused n p ≡ read_of s
+pub refused_at_the_first_fault : (s : List ℕ) (n p : ℕ) → FirstFault s n p → answer_refused n p ≡ read_of s
 unfolding step_of
 refused_at_the_first_fault s n p d =
     let k = reading_at d.reached in
@@ -141,11 +141,11 @@ first_fault (rules {o = o} {r = ru} k e t) r n p q = first_fault t (after-rule r
 first_fault (ends k e) r n p q = let z : ◌≡◌ {A = ℕ} 0 1 = cc in absurd (no_one z)
 
 -- .. and no other file is.
-pub refused_only_at_the_first_fault : (s : List ℕ) (n p : ℕ) → read_of s ≡ answer-refused n p → FirstFault s n p
+pub refused_only_at_the_first_fault : (s : List ℕ) (n p : ℕ) → read_of s ≡ answer_refused n p → FirstFault s n p
 unfolding parse
 refused_only_at_the_first_fault s n p e = first_fault (whole_trail s) at-start n p (stopped (run (length s + 1) s start) e)
   where
-    stopped : (o : Rest) → answer_of (whole o) ≡ answer-refused n p → o ≡ stop n p
+    stopped : (o : Rest) → answer_of (whole o) ≡ answer_refused n p → o ≡ stop n p
     stopped (stop m q) e = cc
     stopped (rest w rs ts) e = let z : ◌≡◌ {A = ℕ} 0 1 = cc in absurd (no_one z)
 

@@ -8,7 +8,7 @@ use Rattle.reading.specs.declared.records.Case.{Case}
 use Rattle.reading.specs.declared.records.Case.TheVariants.{Network, Table, Rule, End, Unknown}
 use Rattle.reading.specs.declared.steps.State.{State}
 use Rattle.reading.specs.Refusals.{one_too_many}
-use Rattle.reading.specs.contracts.records.Case as case-type
+use Rattle.reading.specs.contracts.records.Case as case_type
 use Prim.Native.Nat.{ℕ}
 use Rattle.pattern.specs.declared.Pattern.{Pattern}
 use Rattle.pattern.specs.declared.Noted.{Noted}
@@ -20,7 +20,7 @@ use Rattle.reading.specs.declared.records.Record.TheVariants as record_of
 use Rattle.reading.specs.Arrays.{good_rule, found_in}
 
 -- Every case but a rule's.
-pub no_rule_case : (st : State) (c : Case) → OneOf (0 ∷ 1 ∷ 3 ∷ 4 ∷ []) (tag_of case-type.the_type c) → false ≡ one_too_many c st
+pub no_rule_case : (st : State) (c : Case) → OneOf (0 ∷ 1 ∷ 3 ∷ 4 ∷ []) (tag_of case_type.the_type c) → false ≡ one_too_many c st
 no_rule_case st Network h = refl
 no_rule_case st Table h = refl
 no_rule_case st (Rule n d) h = absurd (miss (0 ∷ 1 ∷ 3 ∷ 4 ∷ []) 2 tt h)

@@ -11,7 +11,7 @@ use lib.ListN.{length, take}
 use lib.Seq.{take_all}
 use Rattle.reading.specs.declared.records.Doing.TheVariants.{Forwards, Drops, Delivers}
 use Rattle.reading.specs.declared.records.Case.{Case}
-use Rattle.reading.specs.declared.records.Case.TheVariants.{Network, Table, Rule as rule-case, End, Unknown}
+use Rattle.reading.specs.declared.records.Case.TheVariants.{Network, Table, Rule as rule_case, End, Unknown}
 use Rattle.reading.specs.declared.records.Shape.{Shape}
 use Rattle.reading.specs.declared.records.Record.{Record}
 use Rattle.reading.specs.declared.records.Record.TheVariants as record_of
@@ -29,9 +29,9 @@ use Rattle.reading.proofs.Trails.{StateOk, Trail, stops, opens, begins, rules, e
 body_most : (c : Case) → body_of c ≤ 9
 body_most Network = omega arith
 body_most Table = omega arith
-body_most (rule-case n Forwards) = omega arith
-body_most (rule-case n Drops) = omega arith
-body_most (rule-case n Delivers) = omega arith
+body_most (rule_case n Forwards) = omega arith
+body_most (rule_case n Drops) = omega arith
+body_most (rule_case n Delivers) = omega arith
 body_most End = omega arith
 body_most Unknown = omega arith
 
@@ -49,7 +49,7 @@ whole_present : (s : List ℕ) (at : ℕ) (c : Case) (b : ℕ) → Present (whol
 unfolding whole_at
 whole_present s at Network b = tt
 whole_present s at Table b = tt
-whole_present s at (rule-case n d) b = tt
+whole_present s at (rule_case n d) b = tt
 whole_present s at End b = tt
 whole_present s at Unknown b = tt
 

@@ -6,7 +6,7 @@ use mathlib.Core.Path.{◌≡◌, refl, sym, ap, ◌∙◌}
 use native.Mathlib.Omega.{arith}
 use lib.ListN.{length, length-append}
 use Rattle.reading.specs.declared.ReadAnswer.{ReadAnswer}
-use Rattle.reading.specs.declared.ReadAnswer.TheVariants.{Refused as answer-refused, Accepted}
+use Rattle.reading.specs.declared.ReadAnswer.TheVariants.{Refused as answer_refused, Accepted}
 use Rattle.reading.specs.declared.Rule.{Rule}
 use Rattle.reading.specs.declared.steps.State.{State}
 use Rattle.reading.specs.declared.steps.Step.{Step}
@@ -18,7 +18,7 @@ use Rattle.reading.proofs.Trails.{StateOk, start_ok, opened_ok, begun_ok, ruled_
 
 -- ---- The answer from a state on: what was counted so far, and what the rest gives.
 abbrev pub figures : State → Rest → ReadAnswer
-figures st (stop n p) = answer-refused n p
+figures st (stop n p) = answer_refused n p
 figures st (rest w rs ts) = Accepted w (st.tables + length ts) (st.rules + (length rs + length (flatten ts)))
 
 accepted_same : (w : ℕ) {a b c d : ℕ} → a ≡ b → c ≡ d → Accepted w a c ≡ Accepted w b d
@@ -126,7 +126,7 @@ module _ (s : List ℕ) (f : ℕ) (st : State) (known : Known s f st) where
         agrees = follow e ∙ figures_ruled s st next r (run (f - 1) s next) q;
       }
 
-  pub known_refused : {n p : ℕ} → Refused n p ≡ step_of s st → answer-refused n p ≡ read_of s
+  pub known_refused : {n p : ℕ} → Refused n p ≡ step_of s st → answer_refused n p ≡ read_of s
   unfolding on_step
   known_refused e = sym (follow e)
 

@@ -4,12 +4,12 @@ use Rattle.std.specs.Prelude.{cond, List, [], ◌∷◌, ℕ, zero, suc, ◌+◌
 use Rattle.reading.specs.declared.Action.{Action}
 use Rattle.reading.specs.declared.Action.TheVariants.{Forward, Drop, Deliver}
 use Rattle.reading.specs.declared.ReadAnswer.{ReadAnswer}
-use Rattle.reading.specs.declared.ReadAnswer.TheVariants.{Refused as answer-refused, Accepted}
+use Rattle.reading.specs.declared.ReadAnswer.TheVariants.{Refused as answer_refused, Accepted}
 use Rattle.reading.specs.declared.Rule.{Rule}
 use Rattle.reading.specs.declared.records.Doing.{Doing}
 use Rattle.reading.specs.declared.records.Doing.TheVariants.{Forwards, Drops, Delivers}
 use Rattle.reading.specs.declared.records.Case.{Case}
-use Rattle.reading.specs.declared.records.Case.TheVariants.{Network, Table, Rule as rule-case, End, Unknown}
+use Rattle.reading.specs.declared.records.Case.TheVariants.{Network, Table, Rule as rule_case, End, Unknown}
 use Rattle.reading.specs.declared.records.Shape.{Shape}
 use Rattle.reading.specs.declared.steps.State.{State}
 use Rattle.reading.specs.declared.steps.Step.{Step}
@@ -33,7 +33,7 @@ action_of Delivers next = Deliver
 abbrev pub good_at : List ℕ → State → Case → ℕ → Step
 good_at s st Network next = Opened (record { at = next; width = byte_at s (st.at + 1); nodes = byte_at s (st.at + 2); tables = 0; rules = 0 })
 good_at s st Table next = Begun (record { at = next; width = st.width; nodes = st.nodes; tables = st.tables + 1; rules = st.rules })
-good_at s st (rule-case n d) next =
+good_at s st (rule_case n d) next =
     Ruled
     (record { at = next; width = st.width; nodes = st.nodes; tables = st.tables; rules = st.rules + 1 })
     (record {
@@ -93,7 +93,7 @@ parse s = whole (run (length s + 1) s start)
 
 -- What Read says of a reading: number and place, or width, node count and rule count.
 abbrev pub answer_of : Parsed → ReadAnswer
-answer_of (refused n p) = answer-refused n p
+answer_of (refused n p) = answer_refused n p
 answer_of (accepted net) = Accepted net.width (length net.tables) (length (rules_of net))
 
 abbrev pub read_of : List ℕ → ReadAnswer
