@@ -253,7 +253,7 @@ module _ (w : ℕ) (f : Pattern) (fs : List Pattern) (gf : WellFormed w f) (g : 
               go true false x y z a b = omega (arith, ap ind (b tt (λ v. v)))
               go false u x y z a b = refl
 
-  -- ---- all patternsFrom
+  -- ---- the whole list
 
   pub claim : (S : List Entry) → Part S → (t : Pattern → Bool)
       → sum_if t (sift w f S) ≡ count (λ h. among (pat_of fs h) (pats S) && t (pat_of (f ∷ fs) h)) (2 ^ w)

@@ -232,7 +232,7 @@ parting w f cs vs ns i m q (short, (bits, s)) c part =
 
 -- ---- take_in
 
--- the patternsFrom from i on are sifted, those below are as they were
+-- the entries from i on are sifted, those below are as they were
 pub record Sifting (w : ℕ) (f : Pattern) (i n m : ℕ) (cs' vs' ns' cs vs ns : List ℕ) : Type 0 where
   pub is : rows cs' vs' ns' i (m - i) ≡ sift w f (rows cs vs ns i (n - i))
   pub old : i ≤ n

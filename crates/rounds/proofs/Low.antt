@@ -28,7 +28,7 @@ module _ (f : ℕ → ℕ) (n : ℕ) where
   unfolding low_from
   low_none v h = let z : n - v ≡ 0 = omega arith in rw z
 
--- what an answer of `lowFrom` says of the nodes from v to v + k
+-- what an answer of `low_from` says of the nodes from v to v + k
 abbrev pub Says : (ℕ → ℕ) → ℕ → ℕ → ℕ → Lowest → Type 0
 Says f n v k (Node w) = (v ≤ w) × (w < v + k) × (returns_to f n w ≡ true) × ((u : ℕ) → v ≤ u → u < w → returns_to f n u ≡ false)
 Says f n v k Nowhere = (u : ℕ) → v ≤ u → u < v + k → returns_to f n u ≡ false

@@ -48,8 +48,6 @@ returns c =
     let net = network_of c.args.file.now in
     let is = same-listed (network_of c.args.file.now) c.args.width (patterns_from c.args.fcares.now c.args.fvalues.now 0 c.args.rules) c.requires.read.stands.width c.requires.read.are in
     let some : length (listed net.width (filters net)) ≡ 0 → ⊥ = λ z. c.if-none.false (c.build-n.ensures.classes ∙ ap length is ∙ z) in
-    let l = listed-lists net c.build-n.new.cares c.build-n.new.values c.args.cares.now c.args.values.now c.build-n.result c.requires.read.formed some (c.build-n.ensures.classes ∙ ap length is)
-    (c.build-n.ensures.cares ∙ ap (λ (L : List Entry). laid care_at L c.args.cares.now) is) (c.build-n.ensures.values ∙ ap (λ (L : List Entry). laid value_at L c.args.values.now) is) in
     let whole = is ∙ (listed_some net.width (filters net) some).1 in
     let old : Lent = lent_of c.args.cares.now c.args.values.now c.args.sizes.now c.args.cycle.now in
     let j = judged_fine net old some in

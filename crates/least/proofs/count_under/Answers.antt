@@ -13,14 +13,12 @@ loop-i-init c =
 pub count_at-count-requires-clause-bits : goal.count_at-count-requires-clause-bits
 count_at-count-requires-clause-bits c =
     let gone = back c.loop-i.i c.loop-i-test.true in
-    let care = turn_care c.args.width c.args.prefix c.args.cares.now c.args.values.now c.args.n c.loop-i.counts (c.loop-i.i - 1) c.loop-i.i gone c.loop-i.invariant.0 c.requires.enough c.loop-i.invariant.2 in
-    let enough = turn_bound c.args.width c.args.prefix c.args.cares.now c.args.values.now c.args.n c.loop-i.counts (c.loop-i.i - 1) c.loop-i.i gone c.loop-i.invariant.0 c.requires.enough c.loop-i.invariant.2 in care
+    turn_care c.args.width c.args.prefix c.args.cares.now c.args.values.now c.args.n c.loop-i.counts (c.loop-i.i - 1) c.loop-i.i gone c.loop-i.invariant.0 c.requires.enough c.loop-i.invariant.2
 
 pub count_at-count-requires-clause-enough : goal.count_at-count-requires-clause-enough
 count_at-count-requires-clause-enough c =
     let gone = back c.loop-i.i c.loop-i-test.true in
-    let care = turn_care c.args.width c.args.prefix c.args.cares.now c.args.values.now c.args.n c.loop-i.counts (c.loop-i.i - 1) c.loop-i.i gone c.loop-i.invariant.0 c.requires.enough c.loop-i.invariant.2 in
-    let enough = turn_bound c.args.width c.args.prefix c.args.cares.now c.args.values.now c.args.n c.loop-i.counts (c.loop-i.i - 1) c.loop-i.i gone c.loop-i.invariant.0 c.requires.enough c.loop-i.invariant.2 in enough
+    turn_bound c.args.width c.args.prefix c.args.cares.now c.args.values.now c.args.n c.loop-i.counts (c.loop-i.i - 1) c.loop-i.i gone c.loop-i.invariant.0 c.requires.enough c.loop-i.invariant.2
 
 pub loop-i-preserved : goal.loop-i-preserved
 loop-i-preserved c = (

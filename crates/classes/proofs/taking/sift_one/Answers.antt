@@ -8,29 +8,25 @@ use Rattle.classes.proofs.taking.sift_one.Goals as goal
 pub held-h-requires-clause-inside : goal.held-h-requires-clause-inside
 held-h-requires-clause-inside c =
     let g =
-    parting c.args.width c.args.f c.args.cares.now c.args.values.now c.args.sizes.now c.args.i c.args.m c.common-part.result (c.requires.short, (c.requires.bits, c.requires.sound))
-    (sym c.if-is_cut.true ∙ c.is_cut.ensures) c.common-part.ensures in
+    parting _ _ _ _ _ _ _ _ (c.requires.short, (c.requires.bits, c.requires.sound)) (sym c.if-is_cut.true ∙ c.is_cut.ensures) c.common-part.ensures in
     g.bits
 
 pub within_sum-s-requires-clause-bound : goal.within_sum-s-requires-clause-bound
 within_sum-s-requires-clause-bound c =
     let g =
-    parting c.args.width c.args.f c.args.cares.now c.args.values.now c.args.sizes.now c.args.i c.args.m c.common-part.result (c.requires.short, (c.requires.bits, c.requires.sound))
-    (sym c.if-is_cut.true ∙ c.is_cut.ensures) c.common-part.ensures in
+    parting _ _ _ _ _ _ _ _ (c.requires.short, (c.requires.bits, c.requires.sound)) (sym c.if-is_cut.true ∙ c.is_cut.ensures) c.common-part.ensures in
     le_trans g.held_more g.few
 
 pub overflow_sub-h : goal.overflow_sub-h
 overflow_sub-h c =
     let g =
-    parting c.args.width c.args.f c.args.cares.now c.args.values.now c.args.sizes.now c.args.i c.args.m c.common-part.result (c.requires.short, (c.requires.bits, c.requires.sound))
-    (sym c.if-is_cut.true ∙ c.is_cut.ensures) c.common-part.ensures in
+    parting _ _ _ _ _ _ _ _ (c.requires.short, (c.requires.bits, c.requires.sound)) (sym c.if-is_cut.true ∙ c.is_cut.ensures) c.common-part.ensures in
     omega (arith, g.held_more, c.held-h.ensures, c.within_sum-s.ensures)
 
 pub move_part-requires-clause-fewer : goal.move_part-requires-clause-fewer
 move_part-requires-clause-fewer c =
     let g =
-    parting c.args.width c.args.f c.args.cares.now c.args.values.now c.args.sizes.now c.args.i c.args.m c.common-part.result (c.requires.short, (c.requires.bits, c.requires.sound))
-    (sym c.if-is_cut.true ∙ c.is_cut.ensures) c.common-part.ensures in
+    parting _ _ _ _ _ _ _ _ (c.requires.short, (c.requires.bits, c.requires.sound)) (sym c.if-is_cut.true ∙ c.is_cut.ensures) c.common-part.ensures in
     omega (arith, g.size_more, c.held-h.ensures, c.within_sum-s.ensures)
 
 pub returns : goal.returns
