@@ -1,8 +1,12 @@
 -- Lists that are laid out hold the patterns that were laid out.
 use mathlib.Core.Path.{◌≡◌, refl, sym, ap, ◌∙◌, subst}
-use mathlib.Core.List.{List, [], ◌∷◌, ◌++◌, map, append_assoc}
+use mathlib.Core.List.{List, [], ◌∷◌, ◌++◌, map, append_assoc, append-nil}
 use Prim.Native.Nat.{ℕ, zero, suc, ◌-◌}
-use lib.ListN.{length, drop, replicate}
+use native.Mathlib.Omega.{arith}
+use lib.ListN.{length, length-take, take, drop, replicate}
+use lib.Seq.{length-take-le}
+use Rattle.std.specs.Array.{IsFirstChunk}
+use Rattle.std.proofs.lemmas.List.{drop_all}
 use Rattle.pattern.specs.declared.Pattern.{Pattern}
 use Rattle.classes.specs.Classes.{Entry, laid, care_at, value_at}
 use Rattle.classes.specs.Given.{pattern_at, patterns_from}
@@ -37,3 +41,18 @@ laid_patterns L cs vs =
     subst (λ (c : List ℕ). patterns_from c (laid value_at L vs) 0 (length L) ≡ pats L) (sym (laid_split care_at L cs))
     (subst (λ (v : List ℕ). patterns_from (front care_at L cs) v 0 (length L) ≡ pats L) (sym (laid_split value_at L vs))
     (front_patterns L (after L cs) (after L vs)))
+
+-- The first 1,024 entries of a list.
+pub chunk_length : (old chunk : List ℕ) → IsFirstChunk old chunk 1024 → length chunk ≡ 1024
+chunk_length old chunk f = ap length f.same ∙ length-take-le 1024 old f.enough
+
+-- A longer list whose first 1,024 entries are laid out.
+laid_longer : (figure : Entry → ℕ) (L : List Entry) (old : List ℕ) → laid figure L (take 1024 old) ++ drop 1024 old ≡ laid figure L old
+laid_longer figure L old =
+    ap (λ (l : List ℕ). map figure L ++ replicate (1024 - length L) 0 ++ l ++ drop 1024 old) (drop_all 1024 (take 1024 old) (omega (arith, length-take 1024 old)))
+    ∙ ap (λ (l : List ℕ). l ++ drop 1024 old) (append-nil (map figure L ++ replicate (1024 - length L) 0))
+
+pub chunk_laid : (figure : Entry → ℕ) (L : List Entry) (x new chunk old : List ℕ) → IsFirstChunk old chunk 1024 → new ≡ laid figure L chunk → x ≡ new
+    → x ++ drop 1024 old ≡ laid figure L old
+chunk_laid figure L x new chunk old f e s =
+    ap (λ (l : List ℕ). l ++ drop 1024 old) (s ∙ e ∙ ap (laid figure L) f.same) ∙ laid_longer figure L old

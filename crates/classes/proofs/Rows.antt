@@ -2,14 +2,15 @@
 use mathlib.Core.Path.{◌≡◌, refl, sym, ap, ap₂, ◌∙◌, subst}
 use mathlib.Core.Logic.{◌⊎◌, inl, inr}
 use mathlib.Core.Bool.{Bool, true, false, cond}
-use mathlib.Core.List.{List, [], ◌∷◌}
+use mathlib.Core.List.{List, [], ◌∷◌, ◌++◌}
 use Prim.Native.Nat.{ℕ, zero, suc, ◌+◌, ◌-◌, ◌≤◌, ◌<◌}
-use native.Mathlib.Nat.{le_refl, eq-or-lt_of_le, sub-zero}
+use native.Mathlib.Nat.{le_refl, eq-or-lt_of_le}
 use native.Mathlib.Numerals.{add-one}
 use native.Mathlib.Omega.{arith}
 use lib.Dec.{T}
 use lib.Bits.{bit_or}
-use lib.ListN.{get_or}
+use lib.ListN.{length, get_or, take}
+use Rattle.std.proofs.lemmas.List.{take_more}
 use Rattle.pattern.specs.declared.Pattern.{Pattern}
 use Rattle.pattern.specs.Filters.{within}
 use Rattle.pattern.proofs.Digits.{none, ◌∪◌, ◌≐◌, by_bits}
@@ -38,7 +39,7 @@ rows_end cs vs ns j n h = ap (rows cs vs ns j) none
 abbrev pub pat : ℕ → ℕ → Pattern
 pat c v = record { care = c; value = v }
 
-row_eq : {a b c d s t : ℕ} → a ≡ b → c ≡ d → s ≡ t → entry (pat a c) s ≡ entry (pat b d) t
+pub row_eq : {a b c d s t : ℕ} → a ≡ b → c ≡ d → s ≡ t → entry (pat a c) s ≡ entry (pat b d) t
 row_eq e f g = λ i. entry (pat (e i) (f i)) (g i)
 
 -- the m numbers from j on stand at the places that φ says
@@ -193,44 +194,32 @@ patterns_end cs vs j n h = ap (patterns_from cs vs j) none_left
     none_left : n - j ≡ 0
     none_left = omega arith
 
--- ---- the search of a place
-
-pub passed_more : (p : Pattern) (cs vs : List ℕ) (i j : ℕ) → ((k : ℕ) → i ≤ k → k < j → T (before (pattern_at cs vs k) p)) → T (before (pattern_at cs vs j) p)
-    → (k : ℕ) → i ≤ k → k < j + 1 → T (before (pattern_at cs vs k) p)
-passed_more p cs vs i j a b k h l = go (eq-or-lt_of_le (below l))
-  where
-    below : k < j + 1 → k ≤ j
-    below l = omega arith
-
-    go : (k ≡ j) ⊎ (k < j) → T (before (pattern_at cs vs k) p)
-    go (inl e) = subst (λ (m : ℕ). T (before (pattern_at cs vs m) p)) (sym e) b
-    go (inr e) = a k h e
-
 -- ---- the cared bits of the filters that f lies within, one filter at a time
 
-module _ (f : Pattern) (cs vs : List ℕ) where
-  cover_step : (j n : ℕ) → j < n → (b : Bool) → b ≡ within f (pattern_at cs vs j)
-      → cover f (patterns_from cs vs j (n - j))
-      ≡ cond b (bit_or (get_or cs j 0) (cover f (patterns_from cs vs (j + 1) (n - (j + 1))))) (cover f (patterns_from cs vs (j + 1) (n - (j + 1))))
-  cover_step j n h b e =
-      ap (cover f) (patterns_step cs vs j n h)
-      ∙ ap (λ (x : Bool). cond x (bit_or (get_or cs j 0) (cover f (patterns_from cs vs (j + 1) (n - (j + 1))))) (cover f (patterns_from cs vs (j + 1) (n - (j + 1))))) (sym e)
+pub cover_more : (f : Pattern) (fs : List Pattern) (g : Pattern) → cover f (fs ++ g ∷ []) ≡ cond (within f g) (bit_or (cover f fs) g.care) (cover f fs)
+cover_more f [] g = go (within f g)
+  where
+    go : (b : Bool) → cond b (bit_or g.care 0) 0 ≡ cond b (bit_or 0 g.care) 0
+    go true = by_bits (g.care ∷ []) [] (x0 ∪ none ≐ none ∪ x0) tt
+    go false = refl
+cover_more f (h ∷ fs) g = go (within f h) (within f g) (cover_more f fs g)
+  where
+    go : (a b : Bool) → cover f (fs ++ g ∷ []) ≡ cond b (bit_or (cover f fs) g.care) (cover f fs)
+        → cond a (bit_or h.care (cover f (fs ++ g ∷ []))) (cover f (fs ++ g ∷ []))
+        ≡ cond b (bit_or (cond a (bit_or h.care (cover f fs)) (cover f fs)) g.care) (cond a (bit_or h.care (cover f fs)) (cover f fs))
+    go true true e = ap (bit_or h.care) e ∙ sym (or_assoc h.care (cover f fs) g.care)
+    go true false e = ap (bit_or h.care) e
+    go false b e = e
 
-  pub cover-start : (n : ℕ) → bit_or 0 (cover f (patterns_from cs vs 0 (n - 0))) ≡ cover f (patterns_from cs vs 0 n)
-  cover-start n =
-      by_bits (cover f (patterns_from cs vs 0 (n - 0)) ∷ []) [] (none ∪ x0 ≐ x0) tt ∙ ap (λ (m : ℕ). cover f (patterns_from cs vs 0 m)) (sub-zero n)
+module _ (f : Pattern) (fs : List Pattern) (i : ℕ) (d : Pattern) (all next : ℕ) (h : i < length fs) (so-far : all ≡ cover f (take i fs)) where
+  next_cover : (b : Bool) → b ≡ within f (get_or fs i d) → cover f (take (i + 1) fs) ≡ cond b (bit_or all (get_or fs i d).care) all
+  next_cover b e =
+      ap (cover f) (take_more fs i d h)
+      ∙ cover_more f (take i fs) (get_or fs i d)
+      ∙ ap₂ (λ (x : Bool) (n : ℕ). cond x (bit_or n (get_or fs i d).care) n) (sym e) (sym so-far)
 
-  pub cover_in : (j n all next : ℕ) → j < n → true ≡ within f (pattern_at cs vs j) → next ≡ bit_or all (get_or cs j 0)
-      → bit_or next (cover f (patterns_from cs vs (j + 1) (n - (j + 1)))) ≡ bit_or all (cover f (patterns_from cs vs j (n - j)))
-  cover_in j n all next h e s =
-      ap (λ (x : ℕ). bit_or x (cover f (patterns_from cs vs (j + 1) (n - (j + 1))))) s
-      ∙ or_assoc all (get_or cs j 0) (cover f (patterns_from cs vs (j + 1) (n - (j + 1))))
-      ∙ ap (bit_or all) (sym (cover_step j n h true e))
+  pub cover_in : true ≡ within f (get_or fs i d) → next ≡ bit_or all (get_or fs i d).care → next ≡ cover f (take (i + 1) fs)
+  cover_in e s = s ∙ sym (next_cover true e)
 
-  pub cover_out : (j n all next : ℕ) → j < n → false ≡ within f (pattern_at cs vs j) → next ≡ all
-      → bit_or next (cover f (patterns_from cs vs (j + 1) (n - (j + 1)))) ≡ bit_or all (cover f (patterns_from cs vs j (n - j)))
-  cover_out j n all next h e s = ap₂ bit_or s (sym (cover_step j n h false e))
-
-  pub cover_end : (j n all : ℕ) → n ≤ j → all ≡ bit_or all (cover f (patterns_from cs vs j (n - j)))
-  cover_end j n all h =
-      sym (ap (λ (l : List Pattern). bit_or all (cover f l)) (patterns_end cs vs j n h) ∙ by_bits (all ∷ []) [] (x0 ∪ none ≐ x0) tt)
+  pub cover_out : false ≡ within f (get_or fs i d) → next ≡ all → next ≡ cover f (take (i + 1) fs)
+  cover_out e s = s ∙ sym (next_cover false e)

@@ -1,10 +1,13 @@
--- What the code's steps are: taking in a filter, last entry first, on entries that stand in three lists. Serves the proofs.
-use Rattle.std.specs.Prelude.{◌≡◌, Bool, true, not, ◌&&◌, cond, List, [], ◌∷◌, ◌++◌, ℕ, zero, suc, ◌+◌, ◌-◌, ◌^◌, ◌≤◌, ◌<◌, T, eqb, get_or, length, take, drop, replicate}
+-- What the code's steps are: taking in a filter, last entry first, on entries that stand in three lists; and what a listing is
+-- before and after each. Serves the proofs.
+use Rattle.std.specs.Prelude.{◌≡◌, Bool, true, not, ◌&&◌, cond, List, [], ◌∷◌, ◌++◌, Option, MatchOption, ℕ, zero, suc, ◌+◌, ◌-◌, ◌^◌, ◌≤◌, ◌<◌, T, eqb, get_or, length, set, take, drop, replicate}
 use Rattle.std.specs.Int.Bits.{bit_or}
 use Rattle.pattern.specs.declared.Pattern.{Pattern}
 use Rattle.pattern.specs.Filters.{within, agree, common, held}
 use Rattle.classes.specs.Classes.{Entry, entry, before, tally, class_list}
 use Rattle.classes.specs.Given.{pattern_at}
+use Rattle.classes.specs.declared.entries.Entries.{Entries}
+use Rattle.classes.specs.declared.places.Listing.{Listing}
 
 -- ---- on a list of entries
 
@@ -63,67 +66,106 @@ unfoldable pub rows : List ℕ → List ℕ → List ℕ → ℕ → ℕ → Lis
 rows cs vs ns j zero = []
 rows cs vs ns j (suc m) = row cs vs ns j ∷ rows cs vs ns (suc j) m
 
--- There is room for 1,024 entries.
-pub record Room (cs vs ns : List ℕ) : Type 0 where
-  pub cares : 1024 ≤ length cs
-  pub values : 1024 ≤ length vs
-  pub sizes : 1024 ≤ length ns
-
--- Each of the three lists stands so to what it was.
-pub record Each (R : List ℕ → List ℕ → Type 0) (cs' vs' ns' cs vs ns : List ℕ) : Type 0 where
-  pub cares : R cs' cs
-  pub values : R vs' vs
-  pub sizes : R ns' ns
-
--- The entries from n on are the same.
-abbrev pub SameFrom : ℕ → List ℕ → List ℕ → Type 0
-SameFrom n b a = (k : ℕ) → n ≤ k → get_or b k 0 ≡ get_or a k 0
+-- The entries from j on, where the first len stand.
+abbrev pub rows_from : Entries → ℕ → List Entry
+rows_from l j = rows l.cares.now l.values.now l.sizes.now j (l.len - j)
 
 -- a with x put in at place i of the first n: those from there on go one place up.
-unfoldable pub inserted : ℕ → ℕ → ℕ → List ℕ → List ℕ
+unfoldable pub inserted : {A : Type 0} → ℕ → ℕ → A → List A → List A
 inserted i n x a = take i a ++ (x ∷ take (n - i) (drop i a) ++ drop (suc n) a)
 
 -- a with place i of the first n taken out: those after it go one place down.
-unfoldable pub removed : ℕ → ℕ → List ℕ → List ℕ
+unfoldable pub removed : {A : Type 0} → ℕ → ℕ → List A → List A
 removed i n a = take i a ++ (take (n - suc i) (drop (suc i) a) ++ drop (n - 1) a)
 
--- a with 0 from place i to before place k.
-unfoldable pub wiped : ℕ → ℕ → List ℕ → List ℕ
-wiped i k a = take i a ++ replicate (k - i) 0 ++ drop k a
+-- a with 0 from place i to place 1,023, its last.
+unfoldable pub wiped : ℕ → List ℕ → List ℕ
+wiped i a = take i a ++ replicate (1024 - i) 0
 
--- Each of the three lists is what its change makes of it.
-pub record Changed (f g h : List ℕ → List ℕ) (cs' vs' ns' cs vs ns : List ℕ) : Type 0 where
-  pub cares : cs' ≡ f cs
-  pub values : vs' ≡ g vs
-  pub sizes : ns' ≡ h ns
-
--- r is the first place from i to n whose entry is not before p.
-pub record Placed (p : Pattern) (cs vs : List ℕ) (i n r : ℕ) : Type 0 where
+-- r is a place from i to n, and the entries from i up to it are before p.
+pub record Passed (p : Pattern) (cs vs : List ℕ) (i n r : ℕ) : Type 0 where
   pub from : i ≤ r
   pub upto : r ≤ n
   pub passed : (k : ℕ) → i ≤ k → k < r → T (before (pattern_at cs vs k) p)
-  pub stop : r < n → T (before (pattern_at cs vs r) p) → ⊥
 
--- The entries below i, and those from 1,024 on, are the same.
-pub record Kept (i : ℕ) (b a : List ℕ) : Type 0 where
-  pub low : (k : ℕ) → k < i → get_or b k 0 ≡ get_or a k 0
-  pub rest : SameFrom 1024 b a
+-- Among the entries from i up to n, p stands at place r.
+pub record Stands (p : Pattern) (cs vs : List ℕ) (i n r : ℕ) : Type 0 where
+  pub at : Passed p cs vs i n r
+  pub there : r < n
+  pub is : p ≡ pattern_at cs vs r
 
--- What the entries from i on became: L, up to place r, where they went up to n before; the other places are the same.
-pub record Became (i n r : ℕ) (cs' vs' ns' cs vs ns : List ℕ) (L : List Entry) : Type 0 where
-  pub is : rows cs' vs' ns' i (r - i) ≡ L
-  pub from : i ≤ r
-  pub one_more : r ≤ n + 1
-  pub kept : Each (Kept i) cs' vs' ns' cs vs ns
+-- Of the entries from i up to n those before r come before p, and p comes before the one at r: p is to be put in there.
+pub record Lacks (p : Pattern) (cs vs : List ℕ) (i n r : ℕ) : Type 0 where
+  pub at : Passed p cs vs i n r
+  pub next : r < n → T (before p (pattern_at cs vs r))
 
--- The first r entries became L, which is at most twice as long as the n that stood there; from 1,024 on nothing changed.
-pub record Took (n r : ℕ) (cs' vs' ns' cs vs ns : List ℕ) (L : List Entry) : Type 0 where
-  pub is : rows cs' vs' ns' 0 r ≡ L
-  pub twice : r ≤ n + n
-  pub rest : Each (SameFrom 1024) cs' vs' ns' cs vs ns
+-- The places below i are the same.
+abbrev pub SameBelow : ℕ → List ℕ → List ℕ → Type 0
+SameBelow i b a = (k : ℕ) → k < i → get_or b k 0 ≡ get_or a k 0
 
--- The first r entries are the class list, where they are at most 512; else the class list has more than 512 too.
-pub record Gathered (w : ℕ) (fs : List Pattern) (r : ℕ) (cs' vs' ns' cs vs ns : List ℕ) : Type 0 where
-  pub fine : r ≤ 512 → rows cs' vs' ns' 0 r ≡ class_list w fs
-  pub many : 512 < r → 512 < length (class_list w fs)
-  pub rest : Each (SameFrom 1024) cs' vs' ns' cs vs ns
+-- ---- on a listing, which is a before a step and b after it
+
+-- Entry j, the entries from j on, and all entries.
+abbrev pub entry_at : Listing → ℕ → Entry
+entry_at a j = row a.cares.now a.values.now a.sizes.now j
+
+abbrev pub entries_from : Listing → ℕ → List Entry
+entries_from a j = rows a.cares.now a.values.now a.sizes.now j (a.len - j)
+
+abbrev pub entries : Listing → List Entry
+entries a = rows a.cares.now a.values.now a.sizes.now 0 a.len
+
+-- It still stands in the same lent lists.
+pub record SameLent (b a : Listing) : Type 0 where
+  pub cares : b.cares.ghost_name ≡ a.cares.ghost_name
+  pub values : b.values.ghost_name ≡ a.values.ghost_name
+  pub sizes : b.sizes.ghost_name ≡ a.sizes.ghost_name
+
+-- Each list has 1,024 places.
+pub record Room (a : Listing) : Type 0 where
+  pub cares : length a.cares.now ≡ 1024
+  pub values : length a.values.now ≡ 1024
+  pub sizes : length a.sizes.now ≡ 1024
+
+-- Each of the three lists of 1,024 is what its change makes of it, and n entries stand.
+pub record Changed (f g h : List ℕ → List ℕ) (n : ℕ) (b a : Listing) : Type 0 where
+  pub cares : b.cares.now ≡ f a.cares.now
+  pub values : b.values.now ≡ g a.values.now
+  pub sizes : b.sizes.now ≡ h a.sizes.now
+  pub len : b.len ≡ n
+  pub room : Room a
+  pub lent : SameLent b a
+
+-- The size of entry i is k now.
+pub record Resized (i k : ℕ) (b a : Listing) : Type 0 where
+  pub cares : b.cares.now ≡ a.cares.now
+  pub values : b.values.now ≡ a.values.now
+  pub sizes : b.sizes.now ≡ set a.sizes.now i k
+  pub len : b.len ≡ a.len
+  pub room : length a.sizes.now ≡ 1024
+  pub lent : SameLent b a
+
+-- The entries below i are the same.
+pub record Kept (i : ℕ) (b a : Listing) : Type 0 where
+  pub cares : SameBelow i b.cares.now a.cares.now
+  pub values : SameBelow i b.values.now a.values.now
+  pub sizes : SameBelow i b.sizes.now a.sizes.now
+  pub lent : SameLent b a
+
+-- The entries from i on became L, at most one more than before; those below are the same.
+pub record Became (i : ℕ) (L : List Entry) (b a : Listing) : Type 0 where
+  pub is : entries_from b i ≡ L
+  pub from : i ≤ b.len
+  pub one_more : b.len ≤ a.len + 1
+  pub kept : Kept i b a
+
+-- The entries became L, which is at most twice as long as what stood there.
+pub record Took (L : List Entry) (b a : Listing) : Type 0 where
+  pub is : entries b ≡ L
+  pub twice : b.len ≤ a.len + a.len
+  pub lent : SameLent b a
+
+-- The entries are the class list, and r is their number, where there are no more than 512.
+pub record Gathered (w : ℕ) (fs : List Pattern) (r : Option ℕ) (b a : Listing) : Type 0 where
+  pub is : MatchOption r (512 < length (class_list w fs)) (λ n. (n ≤ 512) × (rows b.cares.now b.values.now b.sizes.now 0 n ≡ class_list w fs))
+  pub lent : SameLent b a

@@ -2,7 +2,8 @@
 use mathlib.Core.Path.{◌≡◌, sym, ◌∙◌}
 use mathlib.Core.List.{List}
 use Prim.Native.Nat.{ℕ}
-use Rattle.desk.specs.Sheets.{Sheet, returned, laid, unless_short}
+use Rattle.desk.specs.declared.Sheet.{Sheet}
+use Rattle.desk.specs.Sheets.{returned, laid, unless_short}
 
 -- What each contract says of the number r and of the list out' at exit, from the sheet of the inner call's answer and the list at entry.
 pub record Shown (sheet : Sheet) (out : List ℕ) (r : ℕ) (out' : List ℕ) : Type 0 where

@@ -1,3 +1,2 @@
--- What the proofs of several functions use, and that each contract allows one outcome.
-pub mod Laid
+-- That each contract allows one outcome.
 pub mod Determined

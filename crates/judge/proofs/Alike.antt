@@ -6,6 +6,7 @@ use mathlib.Core.List.{List, [], ◌∷◌, ◌++◌, map, flatten}
 use Prim.Native.Nat.{ℕ, zero, suc, ◌^◌, ◌<◌}
 use lib.Dec.{T, ltb}
 use lib.ListN.{get_or}
+use Rattle.std.specs.Prelude.{is_some}
 use Rattle.pattern.specs.declared.Pattern.{Pattern}
 use Rattle.pattern.specs.Filters.{within, header_of}
 use Rattle.pattern.proofs.Within.{header_within}
@@ -18,7 +19,7 @@ use Rattle.classes.proofs.Order.{or_l, or_r, or_says, same_says, same_refl}
 use Rattle.classes.proofs.Listed.{class-hits}
 use Rattle.rounds.specs.Rounds.{lowest}
 use Rattle.judge.specs.Forwarding.{nodes_of, leads_to, hop, query_of}
-use Rattle.judge.specs.Verdicts.{is_node, loops}
+use Rattle.judge.specs.Verdicts.{loops}
 
 abbrev pattern_of : Rule → Pattern
 pattern_of r = r.pattern
@@ -78,4 +79,4 @@ module _ (net : Network) (good : AllWellFormed net.width (filters net)) (h : ℕ
 
   pub loops-alike : loops net (pat_of (filters net) h) ≡ loops net (query_of net h)
   unfolding loops
-  loops-alike = ap (λ f. is_node (lowest f (nodes_of net))) hop-alike
+  loops-alike = ap (λ f. is_some (lowest f (nodes_of net))) hop-alike

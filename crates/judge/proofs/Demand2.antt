@@ -8,20 +8,20 @@ use native.Mathlib.Omega.{arith}
 use lib.Dec.{T}
 use lib.ListN.{length, get_or}
 use borrow.Author.Tests.{le-ltb}
+use Rattle.std.specs.Prelude.{Ok, Option, Some, None, is_some}
 use Rattle.pattern.specs.declared.Pattern.{Pattern}
+use Rattle.reading.specs.declared.Figures.{Figures}
 use Rattle.reading.specs.Network.{Network}
 use Rattle.reading.specs.File.{accepted, parse}
-use Rattle.rounds.specs.declared.Lowest.{Lowest}
-use Rattle.rounds.specs.declared.Lowest.TheVariants.{Node, Nowhere}
 use Rattle.rounds.specs.Rounds.{hops, OnCycle, GoesRound, lowest, cycle_from, cycle_of, cycle_for, cycle_bytes}
 use Rattle.rounds.proofs.Low.{Means, lowest_means, node_means}
 use Rattle.rounds.proofs.CycleList.{cycle_at, cycle_len, cycle_closed, cycle_once}
 use Rattle.judge.specs.declared.Verdict.{Verdict}
 use Rattle.judge.specs.declared.Verdict.TheVariants.{Free, Loop}
-use Rattle.judge.specs.declared.JudgeAnswer.TheVariants.{Judged}
+use Rattle.judge.specs.declared.Judged.{Judged}
 use Rattle.judge.specs.Forwarding.{nodes_of, hop, query_of, HeaderGoesRound}
-use Rattle.judge.specs.Verdicts.{is_node, loops, verdict_of, cycle_in}
-use Rattle.judge.specs.Judging.{Lent, Judgement, judge_of}
+use Rattle.judge.specs.Verdicts.{loops, verdict_of, cycle_in}
+use Rattle.judge.specs.Judging.{Lent, Judgement, said_of, judge_of}
 use Rattle.judge.proofs.First.{First, first_says}
 use Rattle.judge.proofs.JudgeLaws.{fine, judged_is}
 
@@ -60,17 +60,17 @@ module _ (net : Network) (query : Pattern) where
   unfolding loops
   loops_round t = go (lowest (hop net query) (nodes_of net)) (lowest_means (hop net query) (nodes_of net) ends_stay) t
     where
-      go : (low : Lowest) → Means (hop net query) (nodes_of net) low → T (is_node low) → GoesRound (hop net query) (nodes_of net)
-      go (Node v) m t = (v, m.0, m.1)
-      go Nowhere m t = absurd t
+      go : (low : Option ℕ) → Means (hop net query) (nodes_of net) low → T (is_some low) → GoesRound (hop net query) (nodes_of net)
+      go (Some v) m t = (v, m.0, m.1)
+      go None m t = absurd t
 
   pub round_loops : GoesRound (hop net query) (nodes_of net) → T (loops net query)
   unfolding loops
   round_loops g = go (lowest (hop net query) (nodes_of net)) (lowest_means (hop net query) (nodes_of net) ends_stay)
     where
-      go : (low : Lowest) → Means (hop net query) (nodes_of net) low → T (is_node low)
-      go (Node v) m = tt
-      go Nowhere m = absurd (m g)
+      go : (low : Option ℕ) → Means (hop net query) (nodes_of net) low → T (is_some low)
+      go (Some v) m = tt
+      go None m = absurd (m g)
 
   some_node : (n v : ℕ) → v < n → 1 ≤ length (cycle_of (hop net query) n v)
   unfolding cycle_of cycle_from
@@ -81,9 +81,9 @@ module _ (net : Network) (query : Pattern) where
   unfolding loops cycle_for
   cycle_is t = go (lowest (hop net query) (nodes_of net)) refl (lowest_means (hop net query) (nodes_of net) ends_stay) t
     where
-      go : (low : Lowest) → lowest (hop net query) (nodes_of net) ≡ low → Means (hop net query) (nodes_of net) low → T (is_node low)
+      go : (low : Option ℕ) → lowest (hop net query) (nodes_of net) ≡ low → Means (hop net query) (nodes_of net) low → T (is_some low)
           → IsCycle (hop net query) (nodes_of net) (cycle_for (hop net query) (nodes_of net) low)
-      go (Node v) e m t =
+      go (Some v) e m t =
           let back = (node_means (hop net query) (nodes_of net) v e).1 in
           record {
             first = v;
@@ -96,7 +96,7 @@ module _ (net : Network) (query : Pattern) where
             once = cycle_once (hop net query) (nodes_of net) v back;
             comes_back = cycle_closed (hop net query) (nodes_of net) v back;
           }
-      go Nowhere e m t = absurd t
+      go None e m t = absurd t
 
 -- ---- the verdict
 
@@ -132,30 +132,35 @@ module _ (net : Network) where
 -- ---- Judge
 
 -- A judged file has its network's verdict, and the bytes its cycle.
-module _ (file : List ℕ) (old : Lent) (w n r c : ℕ) (v : Verdict) (net : Network) (e : (judge_of file old).answer ≡ Judged w n r c v) (read : parse file ≡ accepted net) where
+module _ (file : List ℕ) (old : Lent) (j : Judged) (net : Network) (e : (judge_of file old).answer ≡ Ok j) (read : parse file ≡ accepted net) where
   is_fine : judge_of file old ≡ fine net old
-  is_fine = judged_is file old w n r c v net e read
+  is_fine = judged_is file old j net e read
 
-  verdict_is : verdict_of net ≡ v
-  verdict_is = let same : (fine net old).answer ≡ Judged w n r c v = sym (ap (λ (j : Judgement). j.answer) is_fine) ∙ e in cc
+  verdict_is : verdict_of net ≡ j.verdict
+  verdict_is = let same : Ok (said_of net) ≡ Ok j = sym (ap (λ (k : Judgement). k.answer) is_fine) ∙ e in ap (λ (k : Judged). k.verdict) {x = said_of net} {y = j} (cc)
 
-  bytes_are : (judge_of file old).lent.cycle ≡ cycle_bytes (cycle_in net v) old.cycle
-  bytes_are = ap (λ (j : Judgement). j.lent.cycle) is_fine ∙ ap (λ (u : Verdict). cycle_bytes (cycle_in net u) old.cycle) verdict_is
+  bytes_are : (judge_of file old).lent.cycle ≡ cycle_bytes (cycle_in net j.verdict) old.cycle
+  bytes_are = ap (λ (k : Judgement). k.lent.cycle) is_fine ∙ ap (λ (u : Verdict). cycle_bytes (cycle_in net u) old.cycle) verdict_is
 
 -- Judge says free exactly when no header goes round, and then the 64 bytes are 255.
-pub demand2_free : (file : List ℕ) (old : Lent) (w n r c : ℕ) (net : Network) → (judge_of file old).answer ≡ Judged w n r c Free
+pub demand2_free : (file : List ℕ) (old : Lent) (figures : Figures) (c : ℕ) (net : Network)
+    → (judge_of file old).answer ≡ Ok (record { figures = figures; classes = c; verdict = Free })
     → parse file ≡ accepted net → NoneGoesRound net × ((judge_of file old).lent.cycle ≡ cycle_bytes [] old.cycle)
 unfolding cycle_in
-demand2_free file old w n r c net e p = (free_says net (verdict_is file old w n r c Free net e p), bytes_are file old w n r c Free net e p)
+demand2_free file old figures c net e p =
+    let j : Judged = record { figures = figures; classes = c; verdict = Free } in
+    (free_says net (verdict_is file old j net e p), bytes_are file old j net e p)
 
-pub demand2_only_free : (file : List ℕ) (old : Lent) (w n r c : ℕ) (v : Verdict) (net : Network) → (judge_of file old).answer ≡ Judged w n r c v
-    → parse file ≡ accepted net → NoneGoesRound net → v ≡ Free
-demand2_only_free file old w n r c v net e p none = sym (verdict_is file old w n r c v net e p) ∙ says_free net none
+pub demand2_only_free : (file : List ℕ) (old : Lent) (j : Judged) (net : Network) → (judge_of file old).answer ≡ Ok j
+    → parse file ≡ accepted net → NoneGoesRound net → j.verdict ≡ Free
+demand2_only_free file old j net e p none = sym (verdict_is file old j net e p) ∙ says_free net none
 
 -- Otherwise it says the least header that goes round, and writes its cycle.
-pub demand2_loop : (file : List ℕ) (old : Lent) (w n r c h : ℕ) (net : Network) → (judge_of file old).answer ≡ Judged w n r c (Loop h)
+pub demand2_loop : (file : List ℕ) (old : Lent) (figures : Figures) (c h : ℕ) (net : Network)
+    → (judge_of file old).answer ≡ Ok (record { figures = figures; classes = c; verdict = Loop h })
     → parse file ≡ accepted net
     → LeastRound net h × ((nodes : List ℕ) × IsCycle (hop net (query_of net h)) (nodes_of net) nodes × ((judge_of file old).lent.cycle ≡ cycle_bytes nodes old.cycle))
-demand2_loop file old w n r c h net e p =
-    let v = verdict_is file old w n r c (Loop h) net e p in
-    (loop_says net h v, (cycle_in net (Loop h), cycle_says net h v, bytes_are file old w n r c (Loop h) net e p))
+demand2_loop file old figures c h net e p =
+    let j : Judged = record { figures = figures; classes = c; verdict = Loop h } in
+    let v = verdict_is file old j net e p in
+    (loop_says net h v, (cycle_in net (Loop h), cycle_says net h v, bytes_are file old j net e p))

@@ -4,14 +4,14 @@ use mathlib.Core.Path.{◌≡◌, refl, sym, ◌∙◌, ap}
 use mathlib.Core.List.{List, [], ◌∷◌, ◌++◌, map}
 use Prim.Native.Nat.{ℕ, zero, suc}
 use lib.ListN.{length}
+use Rattle.std.specs.Prelude.{Ok}
 use Rattle.reading.specs.Network.{Network, filters}
 use Rattle.reading.specs.File.{accepted, parse}
 use Rattle.classes.specs.Classes.{Entry, class_list, laid, care_at, value_at, size_of}
 use Rattle.classes.specs.Steps.{row, rows}
 use Rattle.classes.proofs.Laid.{after, laid_split}
-use Rattle.judge.specs.declared.Verdict.{Verdict}
-use Rattle.judge.specs.declared.JudgeAnswer.TheVariants.{Judged}
-use Rattle.judge.specs.Judging.{Lent, Judgement, classes_of, judge_of}
+use Rattle.judge.specs.declared.Judged.{Judged}
+use Rattle.judge.specs.Judging.{Lent, Judgement, classes_of, said_of, judge_of}
 use Rattle.judge.proofs.JudgeLaws.{fine, judged_is}
 
 -- ---- entries whose figures stand in front of three lists
@@ -35,15 +35,15 @@ laid-rows L cs vs ns =
 
 -- ---- Judge
 
-pub demand3_lists : (file : List ℕ) (old : Lent) (w n r c : ℕ) (v : Verdict) (net : Network) → (judge_of file old).answer ≡ Judged w n r c v → parse file ≡ accepted net
-    → rows (judge_of file old).lent.cares (judge_of file old).lent.values (judge_of file old).lent.sizes 0 c ≡ class_list net.width (filters net)
-demand3_lists file old w n r c v net e read =
-    ap (λ (j : Judgement). rows j.lent.cares j.lent.values j.lent.sizes 0 c) is
+pub demand3_lists : (file : List ℕ) (old : Lent) (j : Judged) (net : Network) → (judge_of file old).answer ≡ Ok j → parse file ≡ accepted net
+    → rows (judge_of file old).lent.cares (judge_of file old).lent.values (judge_of file old).lent.sizes 0 j.classes ≡ class_list net.width (filters net)
+demand3_lists file old j net e read =
+    ap (λ (k : Judgement). rows k.lent.cares k.lent.values k.lent.sizes 0 j.classes) is
     ∙ ap (rows (fine net old).lent.cares (fine net old).lent.values (fine net old).lent.sizes 0) (sym many)
     ∙ laid-rows (classes_of net) old.cares old.values old.sizes
   where
     is : judge_of file old ≡ fine net old
-    is = judged_is file old w n r c v net e read
+    is = judged_is file old j net e read
 
-    many : length (classes_of net) ≡ c
-    many = let same : (fine net old).answer ≡ Judged w n r c v = sym (ap (λ (j : Judgement). j.answer) is) ∙ e in cc
+    many : length (classes_of net) ≡ j.classes
+    many = let same : Ok (said_of net) ≡ Ok j = sym (ap (λ (k : Judgement). k.answer) is) ∙ e in ap (λ (k : Judged). k.classes) {x = said_of net} {y = j} (cc)

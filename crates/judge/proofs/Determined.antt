@@ -4,9 +4,11 @@ use mathlib.Core.Bool.{cond}
 use mathlib.Core.List.{List}
 use Prim.Native.Nat.{ℕ}
 use lib.ListN.{take}
+use Rattle.std.specs.Prelude.{Err}
+use Rattle.reading.specs.declared.refusals.Reason.TheVariants.{ShortLists}
+use Rattle.reading.specs.Refusals.{refusal}
 use Rattle.reading.specs.File.{Parsed}
 use Rattle.reading.proofs.Prefix.{parse-prefix}
-use Rattle.judge.specs.declared.JudgeAnswer.TheVariants.{Refused}
 use Rattle.judge.specs.Judging.{Lent, lent_of, Judgement, judgement, too_short, on_parsed, judge_of}
 
 -- What the contract says of the answer, and of what the lent lists hold at exit.
@@ -26,4 +28,4 @@ module _ (file : List ℕ) (old : Lent) where
 
   pub judge_first_4096 : judge_of (take 4096 file) old ≡ judge_of file old
   unfolding judge_of
-  judge_first_4096 = ap (λ (p : Parsed). cond (too_short old) (judgement (Refused 13 0) old) (on_parsed p old)) (parse-prefix file)
+  judge_first_4096 = ap (λ (p : Parsed). cond (too_short old) (judgement (Err (refusal ShortLists 0)) old) (on_parsed p old)) (parse-prefix file)

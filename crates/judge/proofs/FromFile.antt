@@ -1,112 +1,144 @@
 -- What the reading says of an accepted file, as Judge and Walk use it.
-use mathlib.Core.Path.{◌≡◌, refl, sym, ◌∙◌, ap}
-use mathlib.Core.List.{List, [], ◌∷◌, ◌++◌}
-use Prim.Native.Nat.{ℕ, ◌≤◌, ◌<◌}
+use mathlib.Core.Path.{◌≡◌, refl, sym, ◌∙◌, ap, ap₂, subst}
+use mathlib.Core.Bool.{Bool, true, false, cond}
+use mathlib.Core.List.{List, [], ◌∷◌, ◌++◌, flatten}
+use Prim.Native.Nat.{ℕ, zero, suc, ◌≤◌, ◌<◌}
 use native.Mathlib.Omega.{arith}
-use lib.ListN.{length, drop, replicate, length-append, length-drop, length-replicate, length-map}
+use lib.ListN.{length, get_or, take, drop, length-map}
+use borrow.Author.Tests.{ltb-true}
+use Rattle.std.specs.Prelude.{Ok, Err, Some}
+use Rattle.std.specs.Option.{unwrap_or}
+use Rattle.std.proofs.Math.Seq.{take-append_seam}
 use Rattle.pattern.specs.declared.Pattern.{Pattern}
-use Rattle.pattern.specs.Filters.{WellFormed}
-use Rattle.reading.specs.declared.ReadAnswer.TheVariants.{Refused, Accepted}
-use Rattle.reading.specs.Network.{Network, rules_of, filters}
+use Rattle.pattern.specs.Filters.{WellFormed, within}
+use Rattle.reading.specs.declared.Action.{Action}
+use Rattle.reading.specs.declared.Action.TheVariants.{Forward, Drop, Deliver}
+use Rattle.reading.specs.declared.Figures.{Figures}
+use Rattle.reading.specs.declared.Rule.{Rule}
+use Rattle.reading.specs.declared.refusals.Refusal.{Refusal}
+use Rattle.reading.specs.declared.Mark.{Mark}
+use Rattle.reading.specs.Network.{rules_of, filters, act, next_by}
+use Rattle.reading.specs.Code.{leads_in}
 use Rattle.reading.specs.File.{Parsed, refused, accepted, parse, answer_of, read_of}
-use Rattle.reading.specs.Arrays.{cares_of, values_of, begins_of, filled, rules_in, part_at}
+use Rattle.reading.specs.Arrays.{patterns_of, marks_of, filled, rules_in, part_at}
 use Rattle.reading.proofs.Networks.{Every}
-use Rattle.reading.proofs.Demand1.{Bounded, accepted_is_bounded, ArraysAgree, arrays_agree, PartAgrees, parts_agree}
-use Rattle.classes.specs.Given.{AllWellFormed, patterns_from}
-use Rattle.least.proofs.LeastHeader.{patterns_stand}
-use Rattle.judge.specs.Forwarding.{nodes_of}
-use Rattle.judge.specs.Judging.{Lent, on_parsed, judged_of}
-use Rattle.judge.specs.Steps.{network_in, network_of, Stands, Read}
+use Rattle.reading.proofs.Demand1.{rules_lead, Bounded, accepted_is_bounded, arrays_agree, PartAgrees, parts_agree}
+use Rattle.classes.specs.Given.{AllWellFormed}
+use Rattle.judge.specs.Forwarding.{nodes_of, act_at}
+use Rattle.judge.specs.Judging.{Lent, figures_of, judged_of, on_parsed}
+use Rattle.judge.specs.Steps.{network_in, network_of, Stands}
 
 -- ---- the answer tells which reading it was
 
-pub record Told (s : List ℕ) (w n r : ℕ) : Type 0 where
+pub record Told (s : List ℕ) (figures : Figures) : Type 0 where
   pub parsed : parse s ≡ accepted (network_of s)
-  pub width : (network_of s).width ≡ w
-  pub nodes : nodes_of (network_of s) ≡ n
-  pub rules : length (rules_of (network_of s)) ≡ r
+  pub figures_are : figures ≡ figures_of (network_of s)
 
-pub told : (s : List ℕ) (w n r : ℕ) → Accepted w n r ≡ read_of s → Told s w n r
+pub told : (s : List ℕ) (figures : Figures) → Ok figures ≡ read_of s → Told s figures
 unfolding network_of
-told s w n r e = go (parse s) refl e
+told s figures e = go (parse s) refl e
   where
-    go : (p : Parsed) → parse s ≡ p → Accepted w n r ≡ answer_of p → Told s w n r
-    go (refused a b) q e = let z : ◌≡◌ {A = ℕ} 0 1 = cc in absurd (omega arith)
+    go : (p : Parsed) → parse s ≡ p → Ok figures ≡ answer_of p → Told s figures
+    go (refused r) q e = cc
     go (accepted net) q e =
         let is : network_in (parse s) ≡ net = ap network_in q in
-        record {
-          parsed = q ∙ ap accepted (sym is);
-          width = ap (λ (x : Network). x.width) is ∙ (cc);
-          nodes = ap nodes_of is ∙ (cc);
-          rules = ap (λ (x : Network). length (rules_of x)) is ∙ (cc);
-        }
+        let same : figures ≡ figures_of net = cc in
+        record { parsed = q ∙ ap accepted (sym is); figures_are = same ∙ ap figures_of (sym is) }
 
-pub told_refused : (s : List ℕ) (number place : ℕ) → Refused number place ≡ read_of s → parse s ≡ refused number place
-told_refused s number place e = go (parse s) e
+pub told_refused : (s : List ℕ) (r : Refusal) → Err r ≡ read_of s → parse s ≡ refused r
+told_refused s r e = go (parse s) e
   where
-    go : (p : Parsed) → Refused number place ≡ answer_of p → p ≡ refused number place
-    go (refused a b) e = cc
-    go (accepted net) e = let z : ◌≡◌ {A = ℕ} 0 1 = cc in absurd (omega arith)
+    go : (p : Parsed) → Err r ≡ answer_of p → p ≡ refused r
+    go (refused x) e = cc
+    go (accepted net) e = cc
 
--- ---- the working arrays
-
-filled-length : (xs : List ℕ) (n : ℕ) → length xs ≤ n → length (filled xs (replicate n 0)) ≡ n
-filled-length xs n h =
-    let old : List ℕ = replicate n 0 in
-    let all : length old ≡ n = length-replicate n 0 in
-    omega (arith, length-append xs (drop (length xs) old), length-drop (length xs) old, all)
+-- ---- what the reading leaves
 
 pub all_formed : (w : ℕ) (fs : List Pattern) → Every (WellFormed w) fs → AllWellFormed w fs
 all_formed w [] e = tt
 all_formed w (f ∷ fs) e = (e.0, all_formed w fs e.1)
 
-module _ (s : List ℕ) (w n r : ℕ) (t : Told s w n r) where
+-- ---- a table's actions lead to nodes
+
+every_front : (P : Rule → Type 0) (t u : List Rule) → Every P (t ++ u) → Every P t × Every P u
+every_front P [] u e = (tt, e)
+every_front P (r ∷ t) u e = let s = every_front P t u e.1 in ((e.0, s.0), s.1)
+
+pub every_table : (P : Rule → Type 0) (ts : List (List Rule)) (v : ℕ) → Every P (flatten ts) → Every P (get_or ts v [])
+unfolding flatten
+every_table P [] v e = tt
+every_table P (t ∷ ts) zero e = (every_front P t (flatten ts) e).0
+every_table P (t ∷ ts) (suc v) e = every_table P ts v (every_front P t (flatten ts) e).1
+
+pub act-leads : (n : ℕ) (t : List Rule) (query : Pattern) → Every (λ r. leads_in n r.action ≡ true) t → leads_in n (act t query) ≡ true
+unfolding act
+act-leads n [] query e = refl
+act-leads n (r ∷ t) query e = go (within query r.pattern) (act-leads n t query e.1)
+  where
+    go : (b : Bool) → leads_in n (act t query) ≡ true → leads_in n (cond b r.action (act t query)) ≡ true
+    go true rest = e.0
+    go false rest = rest
+
+-- ---- the same, where the answer is given
+
+module _ (s : List ℕ) (figures : Figures) (e : Ok figures ≡ read_of s) where
+  t : Told s figures
+  t = told s figures e
+
   bounds : Bounded (network_of s)
   bounds = accepted_is_bounded s (network_of s) t.parsed
 
-  arrays : ArraysAgree s (network_of s)
-  arrays = arrays_agree s (network_of s) t.parsed
+  pub width : (network_of s).width ≡ figures.width
+  width = ap (λ (f : Figures). f.width) (sym t.figures_are)
 
-  filters-length : length (filters (network_of s)) ≡ r
-  filters-length = length-map (rules_of (network_of s)) (λ r. r.pattern) ∙ t.rules
+  nodes : nodes_of (network_of s) ≡ figures.nodes
+  nodes = ap (λ (f : Figures). f.nodes) (sym t.figures_are)
 
-  pub rules_fit : r ≤ 256
-  rules_fit = omega (arith, bounds.rules_most, t.rules)
+  pub narrow : figures.width ≤ 32
+  narrow = omega (arith, bounds.most_width, width)
 
-  pub cares_length : length (filled (cares_of s) (replicate 256 0)) ≡ 256
-  cares_length = filled-length (cares_of s) 256 (omega (arith, ap length arrays.cares, length-map (filters (network_of s)) (λ p. p.care), filters-length, rules_fit))
+  pub rules_fit : figures.rules ≤ 256
+  rules_fit = omega (arith, bounds.rules_most, ap (λ (f : Figures). f.rules) t.figures_are)
 
-  pub values_length : length (filled (values_of s) (replicate 256 0)) ≡ 256
-  values_length = filled-length (values_of s) 256 (omega (arith, ap length arrays.values, length-map (filters (network_of s)) (λ p. p.value), filters-length, rules_fit))
+  pub stands : (marks old : List Mark) → marks ≡ filled (marks_of s) old → Stands s marks figures.nodes figures.width
+  stands marks old m = record {
+    width = width;
+    nodes = nodes;
+    few = omega (arith, bounds.nodes_most, nodes);
+    from = λ v h. (part v h).from;
+    upto = λ v h. (part v h).upto;
+    table = λ v h. ap (λ (k : ℕ). rules_in k (part_at s marks v)) (sym width) ∙ (part v h).table;
+    leads = λ query v next h e. go (act_at (network_of s) query v) (acts_lead query v) next e;
+  }
+    where
+      acts_lead : (query : Pattern) (v : ℕ) → leads_in figures.nodes (act_at (network_of s) query v) ≡ true
+      acts_lead query v =
+          act-leads figures.nodes (get_or (network_of s).tables v []) query
+          (every_table (λ r. leads_in figures.nodes r.action ≡ true) (network_of s).tables v
+          (subst (λ (m : ℕ). Every (λ r. leads_in m r.action ≡ true) (rules_of (network_of s))) nodes (rules_lead s (network_of s) t.parsed)))
 
-  pub goes_on : (old : Lent) → on_parsed (parse s) old ≡ judged_of (network_of s) old
-  goes_on old = ap (λ (p : Parsed). on_parsed p old) t.parsed
+      go : (a : Action) → leads_in figures.nodes a ≡ true → (next : ℕ) → next_by a ≡ Some next → next < figures.nodes
+      go (Forward to) l next e = ltb-true next figures.nodes (ap (λ a. leads_in figures.nodes a) (sym (ap (λ o. Forward (unwrap_or o 0)) e)) ∙ l)
+      go Drop l next e = cc
+      go Deliver l next e = cc
 
-  -- the arrays that hold what the reading wrote
-  module _ (fc fv bg : List ℕ) (cares : fc ≡ filled (cares_of s) (replicate 256 0)) (values : fv ≡ filled (values_of s) (replicate 256 0))
-      (begins : bg ≡ filled (begins_of s) (replicate 65 0)) where
-    part : (v : ℕ) → v < n → PartAgrees s bg (network_of s) v
-    part v h = parts_agree s (network_of s) t.parsed bg (replicate 65 0) begins v (omega (arith, t.nodes))
+      part : (v : ℕ) → v < figures.nodes → PartAgrees s marks (network_of s) v
+      part v h = parts_agree s (network_of s) t.parsed marks old m v (omega (arith, nodes, h))
 
-    stands : Stands s bg n w
-    stands = record {
-      width = t.width;
-      narrow = omega (arith, bounds.most_width, t.width);
-      nodes = t.nodes;
-      few = omega (arith, bounds.nodes_most, t.nodes);
-      from = λ v h. (part v h).from;
-      upto = λ v h. (part v h).upto;
-      table = λ v h. ap (λ (k : ℕ). rules_in k (part_at s bg v)) (sym t.width) ∙ (part v h).table;
-    }
+  pub formed : AllWellFormed (network_of s).width (filters (network_of s))
+  formed = all_formed (network_of s).width (filters (network_of s)) bounds.filters_formed
 
-    pub read_here : Read s w n r fc fv bg
-    read_here = record {
-      stands = stands;
-      count = t.rules;
-      formed = all_formed (network_of s).width (filters (network_of s)) bounds.filters_formed;
-      are =
-          ap (patterns_from fc fv 0) (sym filters-length)
-          ∙ patterns_stand (filters (network_of s)) fc fv (drop (length (cares_of s)) (replicate 256 0)) (drop (length (values_of s)) (replicate 256 0)) 0
-          (cares ∙ ap (λ (l : List ℕ). l ++ drop (length (cares_of s)) (replicate 256 0)) arrays.cares)
-          (values ∙ ap (λ (l : List ℕ). l ++ drop (length (values_of s)) (replicate 256 0)) arrays.values);
-    }
+  -- the first of the patterns are the network's filters
+  pub filters_are : (patterns old : List Pattern) → patterns ≡ filled (patterns_of s) old → take figures.rules patterns ≡ filters (network_of s)
+  filters_are patterns old p =
+      ap₂ take many (p ∙ ap (λ (l : List Pattern). filled l old) (arrays_agree s (network_of s) t.parsed).patterns)
+      ∙ take-append_seam (filters (network_of s)) (drop (length (filters (network_of s))) old)
+    where
+      many : figures.rules ≡ length (filters (network_of s))
+      many = ap (λ (f : Figures). f.rules) t.figures_are ∙ sym (length-map (rules_of (network_of s)) (λ r. r.pattern))
+
+  pub formed_here : (patterns old : List Pattern) → patterns ≡ filled (patterns_of s) old → AllWellFormed figures.width (take figures.rules patterns)
+  formed_here patterns old p = subst (AllWellFormed figures.width) (sym (filters_are patterns old p)) (subst (λ (w : ℕ). AllWellFormed w (filters (network_of s))) width formed)
+
+  pub goes_on : (old : Lent) → judged_of (network_of s) old ≡ on_parsed (parse s) old
+  goes_on old = ap (λ (p : Parsed). on_parsed p old) (sym t.parsed)

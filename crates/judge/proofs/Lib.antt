@@ -3,7 +3,6 @@ pub mod RowLaws
 pub mod First
 pub mod Alike
 pub mod Decided
-pub mod MarkLaws
 pub mod JudgeLaws
 pub mod FromFile
 pub mod Demand2

@@ -1,13 +1,16 @@
 -- Paper 01, "Refusal numbers" and "Classes", of Judge: 13 before the file, then the file's own refusal, then 12. A refusal returns its
 -- number and place, and lent lists are untouched, except after 12: the first 1,024 entries of the three lists are then 0 and the first 64
 -- cycle bytes 255. After success the entries from the class count to 1,023 are 0. Entries past 1,024 and past 64 never change.
-use Rattle.std.specs.Prelude.{Bool, ◌||◌, cond, List, [], ℕ, leb, ltb, length}
+use Rattle.std.specs.Prelude.{Bool, ◌||◌, cond, Result, Ok, Err, List, [], ℕ, leb, ltb, length}
+use Rattle.reading.specs.declared.Figures.{Figures}
+use Rattle.reading.specs.declared.refusals.Refusal.{Refusal}
+use Rattle.reading.specs.declared.refusals.Reason.TheVariants.{TooManyClasses, ShortLists}
 use Rattle.reading.specs.Network.{Network, rules_of, filters}
+use Rattle.reading.specs.Refusals.{refusal}
 use Rattle.reading.specs.File.{Parsed, refused, accepted, parse}
 use Rattle.classes.specs.Classes.{Entry, class_list, laid, care_at, value_at, size_of}
 use Rattle.rounds.specs.Rounds.{cycle_bytes}
-use Rattle.judge.specs.declared.JudgeAnswer.{JudgeAnswer}
-use Rattle.judge.specs.declared.JudgeAnswer.TheVariants.{Refused, Judged}
+use Rattle.judge.specs.declared.Judged.{Judged}
 use Rattle.judge.specs.Forwarding.{nodes_of}
 use Rattle.judge.specs.Verdicts.{verdict_of, cycle_in}
 
@@ -23,10 +26,10 @@ lent_of c v s y = record { cares = c; values = v; sizes = s; cycle = y }
 
 -- What Judge gives: its answer, and what the lists hold then.
 pub record Judgement : Type 0 where
-  pub answer : JudgeAnswer
+  pub answer : Result Judged Refusal
   pub lent : Lent
 
-abbrev pub judgement : JudgeAnswer → Lent → Judgement
+abbrev pub judgement : Result Judged Refusal → Lent → Judgement
 judgement a l = record { answer = a; lent = l }
 
 -- One of the three lists below 1,024 entries, or the byte list below 64.
@@ -48,19 +51,24 @@ written L nodes old = record {
 abbrev pub classes_of : Network → List Entry
 classes_of net = class_list net.width (filters net)
 
+abbrev pub figures_of : Network → Figures
+figures_of net = record { width = net.width; nodes = nodes_of net; rules = length (rules_of net) }
+
+-- What is said of a network that is judged.
+abbrev pub said_of : Network → Judged
+said_of net = record { figures = figures_of net; classes = length (classes_of net); verdict = verdict_of net }
+
 -- An accepted file: 12 where there are more than 512 classes, else the class list and the verdict.
 unfoldable pub judged_of : Network → Lent → Judgement
 judged_of net old =
     cond (leb (length (classes_of net)) 512)
-    (judgement
-    (Judged net.width (nodes_of net) (length (rules_of net)) (length (classes_of net)) (verdict_of net))
-    (written (classes_of net) (cycle_in net (verdict_of net)) old))
-    (judgement (Refused 12 0) (written [] [] old))
+    (judgement (Ok (said_of net)) (written (classes_of net) (cycle_in net (verdict_of net)) old))
+    (judgement (Err (refusal TooManyClasses 0)) (written [] [] old))
 
 abbrev pub on_parsed : Parsed → Lent → Judgement
-on_parsed (refused number place) old = judgement (Refused number place) old
+on_parsed (refused r) old = judgement (Err r) old
 on_parsed (accepted net) old = judged_of net old
 
 -- Judge, from the file's bytes and what the lent lists hold.
 unfoldable pub judge_of : List ℕ → Lent → Judgement
-judge_of file old = cond (too_short old) (judgement (Refused 13 0) old) (on_parsed (parse file) old)
+judge_of file old = cond (too_short old) (judgement (Err (refusal ShortLists 0)) old) (on_parsed (parse file) old)

@@ -1,22 +1,16 @@
 -- Paper 01, "Verdict and walk": free, or loop, with the least header that goes round and its cycle.
-use Rattle.std.specs.Prelude.{Bool, true, false, cond, List, [], ℕ, zero, suc, ◌^◌}
+use Rattle.std.specs.Prelude.{Bool, cond, List, [], ℕ, zero, suc, ◌^◌, is_some}
 use Rattle.pattern.specs.declared.Pattern.{Pattern}
 use Rattle.reading.specs.Network.{Network}
-use Rattle.rounds.specs.declared.Lowest.{Lowest}
-use Rattle.rounds.specs.declared.Lowest.TheVariants.{Node, Nowhere}
 use Rattle.rounds.specs.Rounds.{lowest, cycle_for}
 use Rattle.judge.specs.declared.Verdict.{Verdict}
 use Rattle.judge.specs.declared.Verdict.TheVariants.{Free, Loop}
 use Rattle.judge.specs.Forwarding.{nodes_of, hop, query_of}
 
-abbrev pub is_node : Lowest → Bool
-is_node (Node v) = true
-is_node Nowhere = false
-
 -- A query goes round: some node lies on a cycle.
 unfoldable pub loops : Network → Pattern → Bool
 unfolding lowest
-loops net query = is_node (lowest (hop net query) (nodes_of net))
+loops net query = is_some (lowest (hop net query) (nodes_of net))
 
 -- The first of the headers h, h + 1, .. (k of them) that passes the test; free where none does.
 unfoldable pub first_from : (ℕ → Bool) → ℕ → ℕ → Verdict

@@ -1,52 +1,44 @@
-// The row of a pattern: for each node the next one, by the lookup in the node's table where it stands in the file.
-ghost use Rattle.std.specs.Prelude.{◌≡◌, ◌+◌, ◌<◌};
-ghost use Rattle.least.specs.Steps.{mark_of};
+// An accepted file as it stands, and the row of a query in it: for each node the next one, by the lookup in the node's table.
+ghost use Rattle.std.specs.Prelude.{◌≡◌};
 ghost use Rattle.rounds.specs.Rows.{next_of};
-ghost use Rattle.judge.specs.Forwarding.{leads_to, hop};
+ghost use Rattle.judge.specs.Forwarding.{nodes_of, hop};
 ghost use Rattle.judge.specs.Verdicts.{loops};
 ghost use Rattle.judge.specs.Steps.{network_of, Stands};
 
-use pattern::Pattern;
-use reading::Action;
+use pattern::{Pattern, Width};
+use reading::Mark;
+use rounds::Row;
 
-// Where an action leads: the next node, or `nodes` for an end.
-fn leads_to(nodes: u8, action: Action) -> u8
-    ensures { result ≡ leads_to nodes action }
-{
-    match action {
-        Action::Forward(next) => next,
-        Action::Drop => nodes,
-        Action::Deliver => nodes,
-    }
+// An accepted file, and where its nodes' tables stand in it.
+#[derive(Clone, Copy)]
+pub struct Standing<'a> {
+    pub file: &'a [u8],
+    pub marks: &'a [Mark; 65],
+    pub nodes: u8,
+    pub width: Width,
+    pub ghost stands: { Stands file.now marks.now nodes width.bits },
 }
 
-// The row of a pattern, from the nodes' tables in the file.
-pub fn row_of(file: &[u8], begins: &[usize; 65], nodes: u8, width: u8, query: Pattern) -> [u8; 64]
-    requires { Stands file.now begins.now nodes width }
-    ensures { next_of result nodes ≡ hop (network_of file.now) query }
-{
-    let mut row = [0u8; 64];
-    let n = rounds::wide(nodes);
-    let mut v = 0;
-    while v < n {
-        let from = begins[v] + 2;
-        let to = begins[v + 1];
-        let action = reading::lookup(&file[from..to], width, query);
-        row[v] = leads_to(nodes, action);
-        v += 1;
+impl Standing<'_> {
+    // The row of a query.
+    pub fn row(self, query: Pattern) -> Row
+        ensures nodes { result.nodes ≡ nodes_of (network_of self.entry.file.now) }
+        ensures next { next_of result.next result.nodes ≡ hop (network_of self.entry.file.now) query }
+    {
+        let mut next = [None; 64];
+        let nodes = usize::from(self.nodes);
+        for v in 0..nodes {
+            let table = &self.file[self.marks[v].place + 2..self.marks[v + 1].place];
+            next[v] = reading::lookup(table, self.width, query).next();
+        }
+        Row { next, nodes }
     }
-    row
-}
 
-// The mark of a pattern: 1 where its headers go round.
-pub fn mark_of(file: &[u8], begins: &[usize; 65], nodes: u8, width: u8, query: Pattern) -> u8
-    requires { Stands file.now begins.now nodes width }
-    ensures { result ≡ mark_of (loops (network_of file.now)) query }
-{
-    let row = row_of(file, begins, nodes, width, query);
-    let low = rounds::lowest_on_cycle(&row, rounds::wide(nodes));
-    match low {
-        rounds::Lowest::Node(_) => 1,
-        rounds::Lowest::Nowhere => 0,
+    // Whether the headers of a query go round.
+    #[tactic(auto, unfolding(crate::specs::Verdicts::loops))]
+    pub fn goes_round(self, query: Pattern) -> bool
+        ensures { result ≡ loops (network_of self.entry.file.now) query }
+    {
+        self.row(query).lowest_on_cycle().is_some()
     }
 }

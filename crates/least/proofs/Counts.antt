@@ -15,7 +15,7 @@ use Rattle.classes.specs.Classes.{Entry, entry, same, among}
 use Rattle.classes.specs.Steps.{sum_if}
 use Rattle.classes.proofs.Counts.{count_add, count_same}
 use Rattle.classes.proofs.Order.{same_says}
-use Rattle.least.specs.Steps.{shared, recount, Enough}
+use Rattle.least.specs.Counting.{shared, recount, Enough}
 
 -- the headers that two patterns share
 pub shared_size : (w : ℕ) (P p : Pattern) → WellFormed w P → WellFormed w p → count (λ h. hits P h && hits p h) (2 ^ w) ≡ shared w P p

@@ -1,20 +1,18 @@
 -- The least header that passes a test, found from its high bits down; and the pattern of a prefix.
 use mathlib.Core.Path.{◌≡◌, refl, sym, ap, ap₂, ◌∙◌, subst}
 use mathlib.Core.Logic.{◌↔◌}
-use mathlib.Core.List.{List}
 use mathlib.Core.Bool.{Bool, true, false, cond}
 use Prim.Native.Nat.{ℕ, zero, suc, ◌+◌, ◌-◌, ◌*◌, ◌/◌, ◌%◌, ◌^◌, ◌≤◌, ◌<◌, zero-le}
-use native.Mathlib.Nat.{sub_self, mod-eq_of_lt, div-one, div-eq_of_lt, eq_of_mul-eq-mul_right, pow-suc, mul_assoc, add-mul, one-mul, mul-lt-mul_of_pos_right}
+use native.Mathlib.Nat.{mod-eq_of_lt, div-one, div-eq_of_lt, eq_of_mul-eq-mul_right, pow-suc, mul_assoc, add-mul, one-mul, mul-lt-mul_of_pos_right}
 use native.Mathlib.Numerals.{add-one}
 use native.Mathlib.Omega.{arith}
 use lib.Dec.{T}
-use lib.Pow.{pow-add, pow_pos, pow_mono, shr_lt, shr-shr, shl-shr}
+use lib.Pow.{pow-add, pow_pos, pow-lt, pow_mono, shr_lt, shr-shr, shl-shr}
 use lib.Bits.{bit_and, and_high}
 use Rattle.pattern.specs.declared.Pattern.{Pattern}
 use Rattle.pattern.specs.Filters.{hits, WellFormed}
 use Rattle.pattern.proofs.Within.{pair, hits_says}
-use Rattle.classes.specs.Given.{patterns_from}
-use Rattle.least.specs.Steps.{prefix, search, recount, some_of}
+use Rattle.least.specs.Steps.{prefix, search}
 
 -- ---- the pattern of a prefix
 
@@ -123,15 +121,13 @@ module _ (some : Pattern → Bool) (t : ℕ → Bool) (w : ℕ) (tells : Tells s
 
 -- With `left` bits to go, the bits found are those of a prefix m, and the search from m is the whole search.
 pub record Found (some : Pattern → Bool) (w left care value : ℕ) : Type 0 where
+  pub short : w ≤ 32
   pub upto : left ≤ w
   pub cares : care ≡ 2 ^ w - 2 ^ left
   pub m : ℕ
   pub small : m < 2 ^ (w - left)
   pub values : value ≡ m * 2 ^ left
   pub same : search some w w 0 ≡ search some w left m
-
-pub found_none : (some : Pattern → Bool) (w : ℕ) → Found some w w 0 0
-found_none some w = record { upto = omega arith; cares = sym (sub_self (2 ^ w)); m = 0; small = pow_pos (w - w); values = omega arith; same = refl }
 
 pub found_all : {some : Pattern → Bool} {w left care value : ℕ} → Found some w left care value → left ≤ 0 → value ≡ search some w w 0
 unfolding search
@@ -142,7 +138,14 @@ found_all {some} {w} {left} s h =
     none = omega arith
 
 -- The next bit: the prefix with a 0 there is asked.
-module _ {some : Pattern → Bool} {w left care value bit : ℕ} (s : Found some w left care value) (more : 0 < left) (is : bit ≡ 2 ^ (left - 1)) where
+module _ {some : Pattern → Bool} {w left care value : ℕ} (s : Found some w left care value) (more : 0 < left) where
+  -- a one, shifted to its place in 32 bits
+  abbrev pub bit : ℕ
+  bit = 1 * 2 ^ (left - 1) % 2 ^ 32
+
+  is : bit ≡ 2 ^ (left - 1)
+  is = ap (λ (x : ℕ). x % 2 ^ 32) (one-mul (2 ^ (left - 1))) ∙ mod-eq_of_lt (pow-lt {i = left - 1} {j = 32} (omega (arith, s.short, s.upto)))
+
   up : left ≡ suc (left - 1)
   up = omega arith
 
@@ -195,6 +198,7 @@ module _ {some : Pattern → Bool} {w left care value bit : ℕ} (s : Found some
 
   pub found_low : true ≡ some asked → Found some w (left - 1) (care + bit) value
   found_low t = record {
+    short = s.short;
     upto = omega (arith, s.upto);
     cares = next_care;
     m = s.m * 2;
@@ -205,6 +209,7 @@ module _ {some : Pattern → Bool} {w left care value bit : ℕ} (s : Found some
 
   pub found_high : false ≡ some asked → Found some w (left - 1) (care + bit) (value + bit)
   found_high t = record {
+    short = s.short;
     upto = omega (arith, s.upto);
     cares = next_care;
     m = s.m * 2 + 1;
@@ -212,7 +217,3 @@ module _ {some : Pattern → Bool} {w left care value bit : ℕ} (s : Found some
     values = high_value;
     same = step false t;
   }
-
--- The test that the search goes by: whether a marked class has a header under the prefix.
-abbrev pub under : List ℕ → List ℕ → List ℕ → ℕ → ℕ → Pattern → Bool
-under cares values marks n width P = some_of marks 0 (recount width P (patterns_from cares values 0 n))

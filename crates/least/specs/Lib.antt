@@ -1,2 +1,3 @@
--- What the code's steps are.
+-- What counting under a prefix is (Counting), and what the code's steps are (Steps).
+pub mod Counting
 pub mod Steps

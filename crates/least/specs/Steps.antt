@@ -1,42 +1,38 @@
--- What the code's steps are: counting the headers of each class under a prefix, and the search by prefixes from the top bit. Serves the proofs.
-use Rattle.std.specs.Prelude.{Bool, false, not, ◌&&◌, ◌||◌, cond, List, [], ◌∷◌, ℕ, zero, suc, ◌+◌, ◌-◌, ◌*◌, ◌^◌, ◌≤◌, ◌<◌, eqb, get_or}
+-- What the code's steps are: the counts as they stand in lists, and the search by prefixes from the top bit. Serves the proofs.
+use Rattle.std.specs.Prelude.{Bool, false, not, ◌&&◌, ◌||◌, cond, List, [], ◌∷◌, ℕ, zero, suc, ◌+◌, ◌-◌, ◌*◌, ◌^◌, eqb, length}
 use Rattle.pattern.specs.declared.Pattern.{Pattern}
-use Rattle.pattern.specs.Filters.{within, agree, common, held}
-use Rattle.classes.specs.Classes.{Entry, entry}
-use Rattle.classes.specs.Given.{pattern_at}
+use Rattle.pattern.specs.Filters.{within}
+use Rattle.classes.specs.Classes.{Entry}
+use Rattle.classes.specs.Given.{pattern_at, patterns_from}
 use Rattle.classes.specs.Steps.{sum_if, rows}
+use Rattle.least.specs.Counting.{recount}
+use Rattle.least.specs.declared.Patterns.{Patterns}
+use Rattle.least.specs.declared.MarkedClasses.{MarkedClasses}
 
--- How many headers of w bits p and P both hold.
-abbrev pub shared : ℕ → Pattern → Pattern → ℕ
-shared w P p = cond (agree p P) (held w (common p P)) 0
+-- The pattern at place i of two lists, all that stand there, and those with the counts that stand in a third.
+abbrev pub pattern_in : Patterns → ℕ → Pattern
+pattern_in l i = pattern_at l.cares.now l.values.now i
 
--- The number of headers of each class under P, the last first: those that its pattern and P hold, less those of the later classes within its pattern.
-abbrev pub recount : ℕ → Pattern → List Pattern → List Entry
-recount w P [] = []
-recount w P (p ∷ K) = entry p (shared w P p - sum_if (λ q. within q p) (recount w P K)) ∷ recount w P K
+abbrev pub patterns_of : Patterns → List Pattern
+patterns_of l = patterns_from l.cares.now l.values.now 0 (length l.cares.now)
 
--- The counts of the classes after place i, of n, that lie within its pattern, together.
-abbrev pub later_in : List ℕ → List ℕ → List ℕ → ℕ → ℕ → ℕ
-later_in cs vs ns n i = sum_if (λ q. within q (pattern_at cs vs i)) (rows cs vs ns (i + 1) (n - (i + 1)))
+abbrev pub entries_of : Patterns → List ℕ → List Entry
+entries_of l ns = rows l.cares.now l.values.now ns 0 (length l.cares.now)
 
--- Each mask is of w bits, and no difference is below 0.
-abbrev pub Enough : ℕ → Pattern → List Pattern → Type 0
-Enough w P [] = Unit
-Enough w P (p ∷ K) = (p.care < 2 ^ w) × (sum_if (λ q. within q p) (recount w P K) ≤ shared w P p) × Enough w P K
+-- The counts of the classes after place i that lie within its pattern, together.
+abbrev pub later_in : Patterns → List ℕ → ℕ → ℕ
+later_in l ns i =
+    sum_if (λ q. within q (pattern_in l i)) (rows l.cares.now l.values.now ns (i + 1) (length l.cares.now - (i + 1)))
 
--- A class's mark: 1 where its pattern passes the test.
-abbrev pub mark_of : (Pattern → Bool) → Pattern → ℕ
-mark_of goes p = cond (goes p) 1 0
+-- One of the entries is marked and has a header counted.
+abbrev pub some_of : List Bool → List Entry → Bool
+some_of [] L = false
+some_of (m ∷ marks) [] = false
+some_of (m ∷ marks) (e ∷ L) = (m && not (eqb e.size 0)) || some_of marks L
 
--- One of the m classes from place j on is marked and has a header counted.
-unfoldable pub some_marked : List ℕ → List ℕ → ℕ → ℕ → Bool
-some_marked marks ns j zero = false
-some_marked marks ns j (suc m) = (not (eqb (get_or marks j 0) 0) && not (eqb (get_or ns j 0) 0)) || some_marked marks ns (suc j) m
-
--- The same of a list of entries whose marks stand from place j on.
-abbrev pub some_of : List ℕ → ℕ → List Entry → Bool
-some_of marks j [] = false
-some_of marks j (e ∷ L) = (not (eqb (get_or marks j 0) 0) && not (eqb e.size 0)) || some_of marks (suc j) L
+-- A marked class has a header under P.
+abbrev pub under : MarkedClasses → Pattern → Bool
+under c P = some_of c.marks.now (recount c.width.bits P (patterns_of c.listed))
 
 -- The headers of w bits whose bits from k on are m.
 abbrev pub prefix : ℕ → ℕ → ℕ → Pattern

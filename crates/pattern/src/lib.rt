@@ -5,17 +5,23 @@ ghost use Rattle.std.specs.Prelude.{◌≡◌, ◌-◌, ◌^◌, ◌≤◌, ◌<
 ghost use Rattle.pattern.specs.Filters.{hits, within, agree, common, held, header_of};
 ghost use Rattle.pattern.specs.Notations.{caring_of, freeing_of, noted_of};
 
-// A filter: the cared bits, and the value at them.
+// A header width: at most 32 bits.
 #[derive(Clone, Copy)]
+pub struct Width {
+    pub bits: u8,
+    pub ghost short: { bits ≤ 32 },
+}
+
+// A filter: the cared bits, and the value at them. The order is by care mask, then value.
+#[derive(Clone, Copy, PartialEq, Eq, PartialOrd, Ord)]
 pub struct Pattern {
     pub care: u32,
     pub value: u32,
 }
 
-// A filter as it is written: the pattern, or what is wrong with it.
-#[derive(Clone, Copy)]
-pub enum Noted {
-    Fine(Pattern),
+// What is wrong with a filter as it is written.
+#[derive(Clone, Copy, PartialEq, Eq)]
+pub enum Flaw {
     // The mask has a one above the width.
     WideMask,
     // The value has a one above the width.
@@ -24,30 +30,36 @@ pub enum Noted {
     ValueAtFree,
 }
 
-// The low `width` bits, all ones.
-pub fn low_ones(width: u8) -> u32
-    requires { width ≤ 32 }
-    ensures { result ≡ 2 ^ width - 1 }
-{
-    let all = (1u64 << width) - 1;
-    all as u32
+impl Width {
+    // The number of headers of this width.
+    pub fn headers(self) -> u64
+        ensures { result ≡ 2 ^ self.bits }
+    {
+        1u64 << self.bits
+    }
+
+    // The low bits, all ones.
+    pub fn low_ones(self) -> u32
+        ensures { result ≡ 2 ^ self.bits - 1 }
+    {
+        (self.headers() - 1) as u32
+    }
 }
 
 // A filter by its care mask, with the mask as it is written.
 #[tactic(auto, using(crate::proofs::Notes::wide_mask, crate::proofs::Notes::wide_value, crate::proofs::Notes::fine, crate::proofs::Notes::at_free))]
-fn filter_of(width: u8, care: u32, mask: u32, value: u32) -> Noted
-    requires { width ≤ 32 }
-    ensures { result ≡ noted_of width care mask value }
+fn filter_of(width: Width, care: u32, mask: u32, value: u32) -> Result<Pattern, Flaw>
+    ensures { result ≡ noted_of width.bits care mask value }
 {
-    let most = low_ones(width);
+    let most = width.low_ones();
     if most < mask {
-        Noted::WideMask
+        Err(Flaw::WideMask)
     } else if most < value {
-        Noted::WideValue
+        Err(Flaw::WideValue)
     } else if value & care == value {
-        Noted::Fine(Pattern { care, value })
+        Ok(Pattern { care, value })
     } else {
-        Noted::ValueAtFree
+        Err(Flaw::ValueAtFree)
     }
 }
 
@@ -56,28 +68,25 @@ impl Pattern {
     pub const ALL_FREE: Pattern = Pattern { care: 0, value: 0 };
 
     // The first notation: a mask's one is a bit that must match.
-    pub fn caring(width: u8, mask: u32, value: u32) -> Noted
-        requires { width ≤ 32 }
-        ensures { result ≡ caring_of width mask value }
+    pub fn caring(width: Width, mask: u32, value: u32) -> Result<Pattern, Flaw>
+        ensures { result ≡ caring_of width.bits mask value }
     {
         filter_of(width, mask, mask, value)
     }
 
     // The second notation: a mask's one is a bit that is free.
-    pub fn freeing(width: u8, mask: u32, value: u32) -> Noted
-        requires { width ≤ 32 }
-        ensures { result ≡ freeing_of width mask value }
+    pub fn freeing(width: Width, mask: u32, value: u32) -> Result<Pattern, Flaw>
+        ensures { result ≡ freeing_of width.bits mask value }
     {
-        filter_of(width, low_ones(width) ^ mask, mask, value)
+        filter_of(width, width.low_ones() ^ mask, mask, value)
     }
 
     // The pattern of one header: every bit is cared for.
-    pub fn of_header(width: u8, header: u32) -> Pattern
-        requires { width ≤ 32 }
-        ensures { result ≡ header_of width header }
+    pub fn of_header(width: Width, header: u32) -> Pattern
+        ensures { result ≡ header_of width.bits header }
     {
         Pattern {
-            care: low_ones(width),
+            care: width.low_ones(),
             value: header,
         }
     }
@@ -115,12 +124,10 @@ impl Pattern {
     }
 
     // How many headers of `width` bits it holds.
-    pub fn held(self, width: u8) -> u64
-        requires short { width ≤ 32 }
-        requires inside { self.care < 2 ^ width }
-        ensures { result ≡ held width self }
+    pub fn held(self, width: Width) -> u64
+        requires { self.care < 2 ^ width.bits }
+        ensures { result ≡ held width.bits self }
     {
-        let cared = u32::count_ones(self.care);
-        1u64 << (width as u32 - cared)
+        1u64 << (u32::from(width.bits) - self.care.count_ones())
     }
 }

@@ -1,7 +1,5 @@
--- The laws of texts in a buffer, of decimal numbers, letters and lines.
-pub mod Writing
+-- The laws of decimal numbers, letters and lines.
 pub mod Numbers
-pub mod Letters
 pub mod Nodes
-pub mod Lines
+pub mod ByNumber
 pub mod Meaning

@@ -1,4 +1,4 @@
--- What the printed text says: a decimal number reads back as itself and has no zero in front; a header has no free letter; a contract leaves one outcome.
+-- What the printed text says: a decimal number reads back as itself and has no zero in front; a header has no free letter; a run over the lines gives them all.
 use Prim.Native.Nat.{ℕ, zero, suc, ◌+◌, ◌*◌, ◌-◌, ◌/◌, ◌%◌, ◌^◌, ◌≤◌, ◌<◌}
 use mathlib.Core.Bool.{Bool, true, false, cond}
 use mathlib.Core.List.{List, [], ◌∷◌, ◌++◌, map}
@@ -9,14 +9,19 @@ use native.Mathlib.Omega.{arith}
 use borrow.Author.Tests.{ltb-true, ltb-false}
 use lib.Dec.{eqb, ltb}
 use lib.Pow.{pow_pos, high, ones_lt, ones_split}
-use lib.ListN.{length, take, drop, get_or, length-append, get_or-append}
-use lib.Seq.{take_at, sets-eq}
+use lib.ListN.{length, get_or, length-append, get_or-append}
+use Rattle.std.specs.Iterator.{YieldsFirstBy}
+use Rattle.std.proofs.lemmas.Iterator.{YieldsList}
+use Rattle.std.proofs.lemmas.Iterator.Consumers.{YieldsList-from_first}
+use Rattle.arrayvec.specs.ArrayString.{ArrayString}
 use Rattle.pattern.specs.declared.Pattern.{Pattern}
 use Rattle.pattern.specs.Filters.{header_of}
 use Rattle.printing.specs.Text.{digit, digits, decimal, letter}
 use Rattle.judge.specs.Judging.{lent_of}
 use Rattle.printing.specs.Lines.{class_line, class_at, class_lines}
-use Rattle.printing.specs.Buffer.{Put}
+use Rattle.printing.specs.declared.Printed.{Printed}
+use Rattle.printing.specs.declared.Lines.{Lines}
+use Rattle.printing.specs.Left.{lines_of, lines_left}
 
 -- The number that a text of digits stands for, after so much.
 unfoldable pub value_after : ℕ → List ℕ → ℕ
@@ -54,16 +59,6 @@ decimal-value n = digits_value (suc n) n (omega arith)
 -- So two numbers with one text are one number.
 pub decimal_only : (m n : ℕ) → decimal m ≡ decimal n → m ≡ n
 decimal_only m n e = sym (decimal-value m) ∙ ap value e ∙ decimal-value n
-
--- What stands in a buffer before the place after a text that was put at its start is the text.
-pub put_shows : {old text new : List ℕ} {next : ℕ} → Put old 0 text new next → take next new ≡ text
-put_shows {old} {text} {new} {next} p =
-    let room : 0 + length text ≤ length old = omega (arith, p.end, p.within) in
-    ap (take next) (p.buffer ∙ sets-eq text old 0 room) ∙ take_at text (drop (0 + length text) old) next (omega (arith, p.end))
-
--- Two outcomes that a contract allows are equal.
-pub put_only : {old text new new' : List ℕ} {at next next' : ℕ} → Put old at text new next → Put old at text new' next' → (new ≡ new') × (next ≡ next')
-put_only p q = (p.buffer ∙ sym q.buffer, p.end ∙ sym q.end)
 
 -- The first letter of a number's text.
 first_digit : (b : Bool) (x : List ℕ) (d : ℕ) → (b ≡ true → d ≡ 48 → ⊥) → (b ≡ false → (0 < length x) × (get_or x 0 0 ≡ 48 → ⊥)) → get_or (cond b [] x ++ (d ∷ [])) 0 0 ≡ 48 → ⊥
@@ -116,3 +111,10 @@ module _ {A : Type 0} (pat : A → Pattern) (size : A → ℕ) (w : ℕ) where
   class_list-lines (e ∷ L) xs ys zs cycle =
       ap (λ (rest : List (List ℕ)). class_line w (pat e) (size e) ∷ rest)
       (later_lines (pat e).care (pat e).value (size e) (map (λ e. (pat e).care) L ++ xs) (map (λ e. (pat e).value) L ++ ys) (map size L ++ zs) cycle 0 (length L) ∙ class_list-lines L xs ys zs cycle)
+
+abbrev bytes : ArrayString → List ℕ
+bytes line = line.bytes
+
+-- Whoever goes over the lines of a verdict is given their texts, each once, in their order, and no more.
+pub all_lines : (p : Printed) (s : Lines) → lines_left s ≡ lines_of p → YieldsList (YieldsFirstBy bytes lines_left) bytes s (lines_of p)
+all_lines p s e = YieldsList-from_first bytes lines_left (lines_of p) e

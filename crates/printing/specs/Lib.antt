@@ -1,5 +1,5 @@
 -- What text an answer becomes.
 pub mod Text
 pub mod Lines
-pub mod Buffer
 pub mod Asked
+pub mod Left

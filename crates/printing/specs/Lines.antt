@@ -1,11 +1,12 @@
 -- Paper 01, "The printed verdict": "The first line gives the three counts; the second the class count; then one line per class, pattern and size; last `free`, or the header in w letters and the cycle's nodes. A refusal prints one line only. Single blanks part the words, and each line, the last too, ends with a line feed."
-use Rattle.std.specs.Prelude.{ℕ, zero, suc, cond, List, [], ◌∷◌, ◌++◌, eqb, get_or}
+use Rattle.std.specs.Prelude.{ℕ, zero, suc, cond, Result, Ok, Err, List, [], ◌∷◌, ◌++◌, eqb, get_or}
 use Rattle.pattern.specs.declared.Pattern.{Pattern}
+use Rattle.reading.specs.declared.refusals.Refusal.{Refusal}
+use Rattle.reading.specs.Refusals.{number_of}
 use Rattle.judge.specs.Judging.{Lent}
+use Rattle.judge.specs.declared.Judged.{Judged}
 use Rattle.judge.specs.declared.Verdict.{Verdict}
 use Rattle.judge.specs.declared.Verdict.TheVariants.{Free, Loop}
-use Rattle.judge.specs.declared.JudgeAnswer.{JudgeAnswer}
-use Rattle.judge.specs.declared.JudgeAnswer.TheVariants.{Refused, Judged}
 use Rattle.printing.specs.Text.{word, decimal, letters, header_letters}
 
 abbrev pub refused_line : ℕ → ℕ → List ℕ
@@ -40,10 +41,12 @@ class_lines width l i zero = []
 class_lines width l i (suc more) = class_at width l i ∷ class_lines width l (suc i) more
 
 -- The lines of Judge's answer and of what it left in the lent lists.
-abbrev pub lines : JudgeAnswer → Lent → List (List ℕ)
-lines (Refused number place) l = refused_line number place ∷ []
-lines (Judged width nodes rules classes verdict) l =
-    counts_line width nodes rules ∷ classes_line classes ∷ (class_lines width l 0 classes ++ (verdict_line width verdict l.cycle ∷ []))
+abbrev pub lines : Result Judged Refusal → Lent → List (List ℕ)
+lines (Err refusal) l = refused_line (number_of refusal.reason) refusal.place ∷ []
+lines (Ok judged) l =
+    counts_line judged.figures.width judged.figures.nodes judged.figures.rules
+    ∷ classes_line judged.classes
+    ∷ (class_lines judged.figures.width l 0 judged.classes ++ (verdict_line judged.figures.width judged.verdict l.cycle ∷ []))
 
 -- The lines one after the other.
 abbrev pub joined : List (List ℕ) → List ℕ
@@ -51,5 +54,5 @@ joined [] = []
 joined (line ∷ rest) = line ++ joined rest
 
 -- The printed verdict.
-abbrev pub text_of : JudgeAnswer → Lent → List ℕ
+abbrev pub text_of : Result Judged Refusal → Lent → List ℕ
 text_of answer l = joined (lines answer l)

@@ -1,129 +1,115 @@
-// What text an answer becomes: the lines of the printed verdict, each written into a lent buffer from its start.
+// What text an answer becomes: the lines of the printed verdict.
 #![tactic(auto)]
 
-ghost use Rattle.std.specs.Prelude.{◌≡◌, [], ◌≤◌, ◌<◌, length, get_or};
-ghost use Rattle.printing.specs.Buffer.{Put};
-ghost use Rattle.printing.specs.Lines.{refused_line, counts_line, classes_line, class_line, verdict_line, lines};
+ghost use Rattle.std.specs.Prelude.{◌≡◌, [], ◌<◌, length, get_or};
+ghost use Rattle.std.specs.Iterator.{YieldsFirstBy, item_count};
+ghost use Rattle.printing.specs.Lines.{class_at, lines};
 ghost use Rattle.judge.specs.Judging.{Lent, lent_of};
 ghost use Rattle.printing.specs.Asked.{Bounded, Lengths};
-ghost use Rattle.judge.specs.declared.Verdict.TheVariants.{Loop};
 
+mod kinds;
 mod pieces;
 
-use judge::{JudgeAnswer, Verdict};
-use pattern::Pattern;
-use pieces::{put_byte, put_letters, put_named, put_nodes, put_word};
+use arrayvec::ArrayString;
+use judge::Judged;
+use kinds::{class, class_count, counts, refused, verdict_of};
+use pattern::{Pattern, Width};
+use reading::Refusal;
 
-// No line is longer than 300 bytes.
+// A line of the printed verdict, its line feed with it. None is longer than 300 bytes.
+pub type Line = ArrayString<300>;
 
-fn put_refused(out: &mut [u8], number: u8, place: usize) -> usize
-    requires { 300 ≤ length out.old }
-    ensures { Put out.old 0 (refused_line number place) out.new result }
-{
-    let numbered = put_named(out, 0, b"refused ", number as u64);
-    let placed = put_named(out, numbered, b" at ", place as u64);
-    put_byte(out, placed, b'\n')
+// What is printed: Judge's answer, and what it left in the lent lists.
+#[derive(Clone, Copy)]
+pub struct Printed<'a> {
+    pub answer: Result<Judged, Refusal>,
+    pub cares: &'a [u32],
+    pub values: &'a [u32],
+    pub sizes: &'a [u64],
+    pub cycle: &'a [u8],
+    pub ghost bounded: { Bounded answer },
+    pub ghost lengths: { Lengths (lent_of cares.now values.now sizes.now cycle.now) },
 }
 
-fn put_counts(out: &mut [u8], width: u8, nodes: u8, rules: usize) -> usize
-    requires { 300 ≤ length out.old }
-    ensures { Put out.old 0 (counts_line width nodes rules) out.new result }
-{
-    let after_width = put_named(out, 0, b"width ", width as u64);
-    let after_nodes = put_named(out, after_width, b" nodes ", nodes as u64);
-    let after_rules = put_named(out, after_nodes, b" rules ", rules as u64);
-    put_byte(out, after_rules, b'\n')
+// Its lines, one after the other.
+#[derive(Drop)]
+pub struct Lines<'a> {
+    printed: Printed<'a>,
+    next: usize,
 }
 
-fn put_classes(out: &mut [u8], classes: usize) -> usize
-    requires { 300 ≤ length out.old }
-    ensures { Put out.old 0 (classes_line classes) out.new result }
-{
-    let counted = put_named(out, 0, b"classes ", classes as u64);
-    put_byte(out, counted, b'\n')
-}
+impl<'a> Printed<'a> {
+    ghost use Rattle.printing.specs.Left.{lent_in, lines_of, lines_left};
 
-fn put_class(out: &mut [u8], width: u8, pattern: Pattern, size: u64) -> usize
-    requires { (width ≤ 32) × (300 ≤ length out.old) }
-    ensures { Put out.old 0 (class_line width pattern size) out.new result }
-{
-    let lettered = put_letters(out, 0, width, pattern);
-    let sized = put_named(out, lettered, b" ", size);
-    put_byte(out, sized, b'\n')
-}
-
-fn put_loop(out: &mut [u8], width: u8, header: u32, cycle: &[u8]) -> usize
-    requires { (width ≤ 32) × (length cycle.now ≤ 64) × (300 ≤ length out.old) }
-    ensures { Put out.old 0 (verdict_line width (Loop header) cycle.now) out.new result }
-{
-    let named = put_word(out, 0, b"loop ");
-    let lettered = put_letters(out, named, width, Pattern::of_header(width, header));
-    let cycled = put_word(out, lettered, b" cycle");
-    let ended = put_nodes(out, cycled, cycle);
-    put_byte(out, ended, b'\n')
-}
-
-fn put_verdict(out: &mut [u8], width: u8, verdict: Verdict, cycle: &[u8]) -> usize
-    requires { (width ≤ 32) × (length cycle.now ≤ 64) × (300 ≤ length out.old) }
-    ensures { Put out.old 0 (verdict_line width verdict cycle.now) out.new result }
-{
-    match verdict {
-        Verdict::Free => put_word(out, 0, b"free\n"),
-        Verdict::Loop(header) => put_loop(out, width, header, cycle),
-    }
-}
-
-// How many lines an answer has, whatever stands in the lists.
-pub fn line_count(answer: JudgeAnswer) -> usize
-    requires { Bounded answer }
-    ensures { (l : Lent) → result ≡ length (lines answer l) }
-{
-    match answer {
-        JudgeAnswer::Refused { .. } => 1,
-        JudgeAnswer::Judged { classes, .. } => classes + 3,
-    }
-}
-
-// Line k of the printed verdict, counted from 0, from the buffer's start.
-pub fn put_line(
-    out: &mut [u8],
-    k: usize,
-    answer: JudgeAnswer,
-    cares: &[u32],
-    values: &[u32],
-    sizes: &[u64],
-    cycle: &[u8],
-) -> usize
-    requires bounded { Bounded answer }
-    requires lengths { Lengths (lent_of cares.now values.now sizes.now cycle.now) }
-    requires room { 300 ≤ length out.old }
-    requires one { k < length (lines answer (lent_of cares.now values.now sizes.now cycle.now)) }
-    ensures { Put out.old 0 (get_or (lines answer (lent_of cares.now values.now sizes.now cycle.now)) k []) out.new result }
-{
-    match answer {
-        JudgeAnswer::Refused { number, place } => put_refused(out, number, place),
-        JudgeAnswer::Judged {
-            width,
-            nodes,
-            rules,
-            classes,
-            verdict,
-        } => {
-            if k == 0 {
-                return put_counts(out, width, nodes, rules);
-            }
-            if k == 1 {
-                return put_classes(out, classes);
-            }
-            let i = k - 2;
-            if i < classes {
-                let pattern = Pattern {
-                    care: cares[i],
-                    value: values[i],
-                };
-                return put_class(out, width, pattern, sizes[i]);
-            }
-            put_verdict(out, width, verdict, cycle)
+    // All its lines, in their order.
+    pub fn lines(self) -> Lines<'a>
+        ensures { lines_left result ≡ lines_of self.entry }
+    {
+        Lines {
+            printed: self,
+            next: 0,
         }
+    }
+
+    // How many lines it has, whatever stands in the lists.
+    #[tactic(auto, using(crate::proofs::ByNumber::judged_length))]
+    pub fn line_count(self) -> usize
+        ensures { (l : Lent) → result ≡ length (lines self.entry.answer l) }
+    {
+        match self.answer {
+            Err(_) => 1,
+            Ok(judged) => judged.classes + 3,
+        }
+    }
+
+    // The class that stands at place i of the lists.
+    fn class_at(self, width: Width, i: usize) -> Line
+        requires { i < 1024 }
+        ensures { result.bytes ≡ class_at width.bits (lent_in self.entry) i }
+    {
+        let pattern = Pattern {
+            care: self.cares[i],
+            value: self.values[i],
+        };
+        class(width, pattern, self.sizes[i])
+    }
+
+    // Line k of the printed verdict, counted from 0.
+    pub fn line(self, k: usize) -> Line
+        requires { k < length (lines_of self) }
+        ensures { result.bytes ≡ get_or (lines_of self.entry) k [] }
+    {
+        let judged = match self.answer {
+            Err(refusal) => return refused(refusal),
+            Ok(judged) => judged,
+        };
+        let width = Width {
+            bits: judged.figures.width,
+        };
+        match k {
+            0 => counts(judged.figures),
+            1 => class_count(judged.classes),
+            _ if k < judged.classes + 2 => self.class_at(width, k - 2),
+            _ => verdict_of(width, judged.verdict, self.cycle),
+        }
+    }
+}
+
+impl Iterator for Lines<'_> {
+    ghost use Rattle.printing.specs.Left.{lines_left};
+
+    type Item = Line;
+
+    ghost next_gives = { YieldsFirstBy (λ line. line.bytes) lines_left };
+
+    ghost remaining = { item_count lines_left };
+
+    fn next(&mut self) -> Option<Line> {
+        if self.next >= self.printed.line_count() {
+            return None;
+        }
+        let line = self.printed.line(self.next);
+        self.next += 1;
+        Some(line)
     }
 }

@@ -3,7 +3,6 @@ pub mod Tests
 pub mod Shapes
 pub mod Agree
 pub mod Places
-pub mod Others
 pub mod Onward
 pub mod Looking
 pub mod Trails

@@ -5,21 +5,21 @@ use mathlib.Core.Path.{◌≡◌, refl, sym, ap, subst, ◌∙◌}
 use native.Mathlib.Omega.{arith}
 use borrow.Author.Tests.{le-leb}
 use lib.ListN.{length, get_or, take, drop}
+use Rattle.std.specs.Prelude.{Option, Some, Ok}
 use Rattle.reading.specs.declared.Action.{Action}
 use Rattle.reading.specs.declared.Rule.{Rule}
-use Rattle.reading.specs.declared.Found.{Found}
-use Rattle.reading.specs.declared.Found.TheVariants.{Good}
+use Rattle.reading.specs.declared.Mark.{Mark}
 use Rattle.reading.specs.declared.records.Record.TheVariants as record_of
 use Rattle.reading.specs.declared.steps.State.{State}
 use Rattle.reading.specs.File.{Rest, stop, rest, new_table, with_rule, run, start}
 use Rattle.reading.specs.Kinds.{byte_at, shape_of}
-use Rattle.reading.specs.Code.{body_of, record_at}
-use Rattle.reading.specs.Arrays.{good_rule, found_in, found_at, on_found, rules_from, rules_in, notes, per_table, begins_of}
+use Rattle.reading.specs.Code.{record_at}
+use Rattle.reading.specs.Arrays.{mark_of, good_rule, found_in, found_at, on_found, rules_from, rules_in, notes, per_table, begins_of}
 use Rattle.reading.proofs.Tests.{positive}
-use Rattle.reading.proofs.Places.{part_length, part_record, rule_extent}
+use Rattle.reading.proofs.Places.{body_in, part_length, part_record, rule_extent}
 use Rattle.reading.proofs.Onward.{BegunOk, RuledOk, told_ok}
 use Rattle.reading.proofs.Trails.{StateOk, Trail, stops, opens, begins, rules, ends}
-use Rattle.reading.proofs.Networks.{notes_on, Opening, never, opened, file_opening, If}
+use Rattle.reading.proofs.Networks.{map_notes, notes_on, Opening, never, opened, file_opening, If}
 
 abbrev place_of : State → ℕ
 place_of st = st.at
@@ -39,26 +39,26 @@ module _ (s : List ℕ) (st next : State) (r : Rule) (q : RuledOk s st next r) (
   end_is : next.at ≡ st.at + (1 + q.written.body)
   end_is = ap place_of q.goes
 
-  stands_there : record_at (up_to s b e) (st.at - b) ≡ record_of.Rule q.written
+  stands_there : record_at (up_to s b e) (st.at - b) ≡ Ok (record_of.Rule q.written)
   stands_there =
       let there : b + (st.at - b) ≡ st.at = omega arith in
       part_record s b (e - b) (omega (arith, end_is)) (st.at - b)
-      (subst (λ (n : ℕ). st.at - b + n < e - b) (rule_extent s st.at q.stands ∙ ap (λ (n : ℕ). body_of (shape_of (byte_at s n)).case) (sym there)) (omega (arith, end_is)))
+      (subst (λ (n : ℕ). st.at - b + n < e - b) (rule_extent s st.at q.stands ∙ ap (λ (n : ℕ). body_in (shape_of (byte_at s n))) (sym there)) (omega (arith, end_is)))
       ∙ ap (record_at s) there
       ∙ sym q.stands
 
-  found_there : Good r (next.at - b) ≡ found_at st.width (up_to s b e) (st.at - b)
+  found_there : Some (r, next.at - b) ≡ found_at st.width (up_to s b e) (st.at - b)
   unfolding found_at
   found_there =
       let on : next.at - b ≡ st.at - b + (1 + q.written.body) = omega (arith, end_is) in
-      ap (Good r) on
-      ∙ ap (λ (a : Action). Good (record { pattern = r.pattern; action = a }) (st.at - b + (1 + q.written.body))) (sym q.acts)
+      ap (λ (n : ℕ). Some (r, n)) on
+      ∙ ap (λ (a : Action). Some (record { pattern = r.pattern; action = a }, st.at - b + (1 + q.written.body))) (sym q.acts)
       ∙ ap (good_rule (st.at - b) q.written) q.fine
       ∙ ap (found_in st.width (st.at - b)) (sym stands_there)
 
   one_more : (g : ℕ) → rules_from (suc g) st.width (up_to s b e) (st.at - b) ≡ r ∷ rules_from g st.width (up_to s b e) (next.at - b)
   unfolding rules_from
-  one_more g = ap (λ (x : Found). on_found x (rules_from g st.width (up_to s b e))) (sym found_there)
+  one_more g = ap (λ (x : Option (Rule × ℕ)). on_found x (rules_from g st.width (up_to s b e))) (sym found_there)
 
 -- ---- Node v's part, between marks v and v + 1.
 pub record Part (s m : List ℕ) (w : ℕ) (ts : List (List Rule)) (v : ℕ) : Type 0 where
@@ -76,7 +76,7 @@ record PartsOk (s m : List ℕ) (st : State) (w : ℕ) (rs : List Rule) (ts : Li
   many : length m ≡ suc (length ts)
 
 abbrev PartsIf : List ℕ → List ℕ → State → Rest → Type 0
-PartsIf s m st (stop n p) = Unit
+PartsIf s m st (stop x) = Unit
 PartsIf s m st (rest w rs ts) = PartsOk s m st w rs ts
 
 module _ (s : List ℕ) (st : State) (k : StateOk s st) where
@@ -150,11 +150,11 @@ module _ (s : List ℕ) (st : State) (k : StateOk s st) where
         record { width = width_is; ahead = omega (arith, further, i.ahead); upto = i.upto; here = more_here; tables = i.tables; many = i.many }
 
   parts_new : (next : State) (o : Rest) (m : List ℕ) → BegunOk s st next → PartsIf s m next o → PartsIf s (st.at ∷ m) st (new_table o)
-  parts_new next (stop n p) m q i = tt
+  parts_new next (stop x) m q i = tt
   parts_new next (rest w rs ts) m q i = parts_begun next q m w rs ts i
 
   parts_with : (next : State) (r : Rule) (o : Rest) (m : List ℕ) → RuledOk s st next r → PartsIf s m next o → PartsIf s m st (with_rule r o)
-  parts_with next r (stop n p) m q i = tt
+  parts_with next r (stop x) m q i = tt
   parts_with next r (rest w rs ts) m q i = parts_ruled next r q m w rs ts i
 
 parts : {s : List ℕ} {f : ℕ} {st : State} {o : Rest} → Trail s f st o → 0 < st.width → PartsIf s (notes (per_table place_of) f s st) st o
@@ -177,7 +177,7 @@ pub record Parted (s m : List ℕ) (w : ℕ) (ts : List (List Rule)) : Type 0 wh
   pub many : length m ≡ suc (length ts)
 
 parted : (s m : List ℕ) (st : State) (o : Rest) → PartsIf s m st o → If (Parted s m) o
-parted s m st (stop n p) i = tt
+parted s m st (stop x) i = tt
 parted s m st (rest w rs ts) i = record { each = i.tables; many = i.many }
 
 opening_parted : {s : List ℕ} {f : ℕ} {st : State} {o : Rest} → Opening s f st o → If (Parted s (notes (per_table place_of) f s st)) o
@@ -188,4 +188,6 @@ opening_parted {s} (opened {f = f} {st = st} {next = next} {o = o} k e t) =
     (parted s _ next o (parts t (omega (arith, q.wide))))
 
 pub file_parted : (s : List ℕ) → If (Parted s (begins_of s)) (run (length s + 1) s start)
-file_parted s = opening_parted (file_opening s)
+file_parted s =
+    subst (λ (m : List ℕ). If (Parted s m) (run (length s + 1) s start)) (sym (map_notes (λ (m : Mark). m.place) mark_of s (length s + 1) start))
+    (opening_parted (file_opening s))

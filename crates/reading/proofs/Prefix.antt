@@ -9,20 +9,25 @@ use borrow.Author.Tests.{leb-true, leb-false, lt-ltb, lt-leb}
 use lib.Dec.{leb}
 use lib.ListN.{length, take}
 use lib.Seq.{take_all}
+use Rattle.std.specs.Prelude.{Option, Some, None, Result, Ok, Err}
 use Rattle.reading.specs.declared.records.Doing.TheVariants.{Forwards, Drops, Delivers}
 use Rattle.reading.specs.declared.records.Case.{Case}
-use Rattle.reading.specs.declared.records.Case.TheVariants.{Network, Table, Rule as rule_case, End, Unknown}
+use Rattle.reading.specs.declared.records.Case.TheVariants.{Network, Table, Rule as rule_case, End}
 use Rattle.reading.specs.declared.records.Shape.{Shape}
 use Rattle.reading.specs.declared.records.Record.{Record}
 use Rattle.reading.specs.declared.records.Record.TheVariants as record_of
+use Rattle.reading.specs.declared.records.Unread.{Unread}
+use Rattle.reading.specs.declared.records.Unread.TheVariants.{Missing, Unknown, Short}
+use Rattle.reading.specs.declared.refusals.Refusal.{Refusal}
 use Rattle.reading.specs.declared.steps.State.{State}
 use Rattle.reading.specs.declared.steps.Step.{Step}
 use Rattle.reading.specs.Kinds.{byte_at, shape_of}
 use Rattle.reading.specs.File.{step_of, Rest, new_table, with_rule, on_step, run, whole, parse}
-use Rattle.reading.specs.Code.{body_of, whole_at, shaped_at, record_at, end_step, step_on}
+use Rattle.reading.specs.Code.{body_of, shaped_at, record_at, end_step, step_on}
 use Rattle.reading.proofs.Tests.{by_test, cond_elim}
 use Rattle.reading.proofs.Agree.{step_is}
-use Rattle.reading.proofs.Places.{part_length, part_record}
+use Rattle.reading.proofs.Places.{body_in, part_length, part_record}
+use Rattle.reading.proofs.Shapes.{of_shape}
 use Rattle.reading.proofs.Onward.{told_ok}
 use Rattle.reading.proofs.Trails.{StateOk, Trail, stops, opens, begins, rules, ends, whole_trail}
 
@@ -33,46 +38,38 @@ body_most (rule_case n Forwards) = omega arith
 body_most (rule_case n Drops) = omega arith
 body_most (rule_case n Delivers) = omega arith
 body_most End = omega arith
-body_most Unknown = omega arith
+
+shape_most : (k : ℕ) → body_in (shape_of k) ≤ 9
+shape_most k = of_shape (λ (o : Option Shape). body_in o ≤ 9) (omega arith) body_most k
 
 -- Within the file something stands.
-abbrev Present : Record → Type 0
-Present (record_of.Network w n) = Unit
-Present (record_of.Table v) = Unit
-Present (record_of.Rule wr) = Unit
-Present record_of.End = Unit
-Present (record_of.Short c) = Unit
-Present record_of.Unknown = Unit
-Present record_of.Missing = ⊥
+abbrev Present : Result Record Unread → Type 0
+Present (Ok r) = Unit
+Present (Err (Short c)) = Unit
+Present (Err Unknown) = Unit
+Present (Err Missing) = ⊥
 
-whole_present : (s : List ℕ) (at : ℕ) (c : Case) (b : ℕ) → Present (whole_at s at c b)
-unfolding whole_at
-whole_present s at Network b = tt
-whole_present s at Table b = tt
-whole_present s at (rule_case n d) b = tt
-whole_present s at End b = tt
-whole_present s at Unknown b = tt
-
-shaped_present : (s : List ℕ) (at : ℕ) (sh : Shape) → Present (shaped_at s at sh)
+shaped_present : (s : List ℕ) (at : ℕ) (o : Option Shape) → Present (shaped_at s at o)
 unfolding shaped_at
-shaped_present s at sh = cond_elim Present (leb (length s) (at + sh.body)) (λ _. tt) (λ _. whole_present s at sh.case sh.body)
+shaped_present s at None = tt
+shaped_present s at (Some sh) = cond_elim Present (leb (length s) (at + sh.body)) (λ _. tt) (λ _. tt)
 
 present : (s : List ℕ) (at : ℕ) → at < length s → Present (record_at s at)
 unfolding record_at
 present s at h =
-    subst (λ (b : Bool). Present (cond b record_of.Missing (shaped_at s at (shape_of (byte_at s at))))) (sym (lt-leb (length s) at h))
+    subst (λ (b : Bool). Present (cond b (Err Missing) (shaped_at s at (shape_of (byte_at s at))))) (sym (lt-leb (length s) at h))
     (shaped_present s at (shape_of (byte_at s at)))
 
 -- The file's length matters to the step only near its end.
-same_length : (n m : ℕ) (st : State) (r : Record) → Present r → st.at + 1 < n → st.at + 1 < m → step_on n st r ≡ step_on m st r
+same_length : (n m : ℕ) (st : State) (r : Result Record Unread) → Present r → st.at + 1 < n → st.at + 1 < m → step_on n st r ≡ step_on m st r
 unfolding step_on end_step
-same_length n m st (record_of.Network w k) p a b = refl
-same_length n m st (record_of.Table v) p a b = refl
-same_length n m st (record_of.Rule wr) p a b = refl
-same_length n m st record_of.End p a b = simp (lt-ltb (st.at + 1) n a, lt-ltb (st.at + 1) m b)
-same_length n m st (record_of.Short c) p a b = refl
-same_length n m st record_of.Unknown p a b = refl
-same_length n m st record_of.Missing p a b = absurd p
+same_length n m st (Ok (record_of.Network w k)) p a b = refl
+same_length n m st (Ok (record_of.Table v)) p a b = refl
+same_length n m st (Ok (record_of.Rule wr)) p a b = refl
+same_length n m st (Ok record_of.End) p a b = simp (lt-ltb (st.at + 1) n a, lt-ltb (st.at + 1) m b)
+same_length n m st (Err (Short c)) p a b = refl
+same_length n m st (Err Unknown) p a b = refl
+same_length n m st (Err Missing) p a b = absurd p
 
 module _ (s : List ℕ) (long : 4096 ≤ length s) where
   abbrev front : List ℕ
@@ -83,7 +80,7 @@ module _ (s : List ℕ) (long : 4096 ≤ length s) where
 
   record_same : (at : ℕ) → at + 9 < 4096 → record_at front at ≡ record_at s at
   record_same at h =
-      part_record s 0 4096 (omega arith) at (omega (arith, body_most (shape_of (byte_at s (0 + at))).case)) ∙ ap (record_at s) (zero-add at)
+      part_record s 0 4096 (omega arith) at (omega (arith, shape_most (byte_at s (0 + at)))) ∙ ap (record_at s) (zero-add at)
 
   near : (st : State) → StateOk s st → st.at ≤ 2691
   near st k = omega (arith, k.near, k.tables, k.nodes, k.rules)
@@ -100,14 +97,14 @@ module _ (s : List ℕ) (long : 4096 ≤ length s) where
   abbrev Same : State → Rest → Type 0
   Same st o = (f : ℕ) → 4096 < f + st.at → run f front st ≡ o
 
-  turn : (st : State) → StateOk s st → {x : Step} → x ≡ step_of s st → (o : Rest)
+  turn : (st : State) → StateOk s st → {x : Result Step Refusal} → x ≡ step_of s st → (o : Rest)
       → ((f : ℕ) → 4096 < suc f + st.at → on_step st x (run f front) ≡ o) → Same st o
   unfolding run
   turn st k e o go zero h = absurd (no (near st k) h)
     where
       no : {n : ℕ} → n ≤ 2691 → 4096 < zero + n → ⊥
       no l h = omega arith
-  turn st k e o go (suc f) h = ap (λ (y : Step). on_step st y (run f front)) (step_same st k ∙ sym e) ∙ go f h
+  turn st k e o go (suc f) h = ap (λ (y : Result Step Refusal). on_step st y (run f front)) (step_same st k ∙ sym e) ∙ go f h
 
   run-same : {f : ℕ} {st : State} {o : Rest} → Trail s f st o → Same st o
   unfolding on_step

@@ -5,29 +5,46 @@ use mathlib.Core.Path.{◌≡◌, refl, sym, subst}
 use native.Mathlib.Omega.{arith}
 use borrow.Author.Tests.{ne_eqb, ltb-true, ltb-false}
 use lib.Dec.{eqb, ltb}
+use Rattle.std.specs.Prelude.{Option, Some, None}
 use Rattle.reading.specs.declared.records.Notation.TheVariants.{Caring, Freeing}
 use Rattle.reading.specs.declared.records.Doing.{Doing}
 use Rattle.reading.specs.declared.records.Doing.TheVariants.{Forwards, Drops, Delivers}
-use Rattle.reading.specs.declared.records.Case.TheVariants.{Unknown}
+use Rattle.reading.specs.declared.records.Case.{Case}
+use Rattle.reading.specs.declared.records.Case.TheVariants.{Network, Table, Rule, End}
 use Rattle.reading.specs.declared.records.Shape.{Shape}
 use Rattle.reading.specs.Kinds.{Kind, kinds, find_kind, shape_of}
 use Rattle.reading.specs.Code.{shape, rule_shape, rule_body, body_of}
 use Rattle.reading.proofs.Tests.{by_test, cond_elim}
 
-abbrev All : (Shape → Type 0) → List Kind → Type 0
-All P [] = Unit
-All P (x ∷ xs) = P x.shape × All P xs
+-- What holds of no shape, and of each case with that case's body, holds of what the table says of any kind byte.
+module _ (P : Option Shape → Type 0) (none : P None) (each : (c : Case) → P (Some (shape c (body_of c)))) where
+  abbrev All : List Kind → Type 0
+  All [] = Unit
+  All (x ∷ xs) = P (Some x.shape) × All xs
 
-find_all : (P : Shape → Type 0) (k : ℕ) (xs : List Kind) → All P xs → P (shape Unknown 0) → P (find_kind k xs)
-find_all P k [] a u = u
-find_all P k (x ∷ xs) a u = cond_elim P (eqb k x.byte) (λ _. a.0) (λ _. find_all P k xs a.1 u)
+  find_all : (k : ℕ) (xs : List Kind) → All xs → P (find_kind k xs)
+  find_all k [] a = none
+  find_all k (x ∷ xs) a = cond_elim P (eqb k x.byte) (λ _. a.0) (λ _. find_all k xs a.1)
 
--- The shape of any kind byte is its case with that case's body.
-pub shape_is : (k : ℕ) → shape_of k ≡ shape (shape_of k).case (body_of (shape_of k).case)
-unfolding shape_of
-shape_is k =
-    find_all (λ (sh : Shape). sh ≡ shape sh.case (body_of sh.case)) k kinds
-    (refl, (refl, (refl, (refl, (refl, (refl, (refl, (refl, (refl, tt))))))))) refl
+  pub of_shape : (k : ℕ) → P (shape_of k)
+  unfolding shape_of
+  of_shape k =
+      find_all k kinds (
+        each Network,
+        (
+          each Table,
+          (
+            each (Rule Caring Forwards),
+            (
+              each (Rule Caring Drops),
+              (
+                each (Rule Caring Delivers),
+                (each (Rule Freeing Forwards), (each (Rule Freeing Drops), (each (Rule Freeing Delivers), (each End, tt)))),
+              ),
+            ),
+          ),
+        ),
+      )
 
 -- The rows of the table that the code's two ranges stand for.
 range_of : (P : ℕ → Type 0) (a k : ℕ) → P a → P (a + 1) → P (a + 2) → a ≤ k → k < a + 3 → P k
@@ -45,16 +62,16 @@ range_of P a k p0 p1 p2 l h =
     last : a + 2 ≤ k → k ≡ a + 2
     last g = omega arith
 
-pub caring_kinds : (k : ℕ) → 3 ≤ k → k < 6 → rule_shape Caring (k - 3) ≡ shape_of k
+pub caring_kinds : (k : ℕ) → 3 ≤ k → k < 6 → Some (rule_shape Caring (k - 3)) ≡ shape_of k
 unfolding shape_of
-caring_kinds k l h = range_of (λ (k : ℕ). rule_shape Caring (k - 3) ≡ find_kind k kinds) 3 k refl refl refl l h
+caring_kinds k l h = range_of (λ (k : ℕ). Some (rule_shape Caring (k - 3)) ≡ find_kind k kinds) 3 k refl refl refl l h
 
-pub freeing_kinds : (k : ℕ) → 19 ≤ k → k < 22 → rule_shape Freeing (k - 19) ≡ shape_of k
+pub freeing_kinds : (k : ℕ) → 19 ≤ k → k < 22 → Some (rule_shape Freeing (k - 19)) ≡ shape_of k
 unfolding shape_of
-freeing_kinds k l h = range_of (λ (k : ℕ). rule_shape Freeing (k - 19) ≡ find_kind k kinds) 19 k refl refl refl l h
+freeing_kinds k l h = range_of (λ (k : ℕ). Some (rule_shape Freeing (k - 19)) ≡ find_kind k kinds) 19 k refl refl refl l h
 
 -- A byte that is none of the nine kinds.
-pub unknown_kind : (k : ℕ) → (k ≡ 1 → ⊥) → (k ≡ 2 → ⊥) → (k ≡ 127 → ⊥) → (3 ≤ k → k < 6 → ⊥) → (19 ≤ k → k < 22 → ⊥) → shape Unknown 0 ≡ shape_of k
+pub unknown_kind : (k : ℕ) → (k ≡ 1 → ⊥) → (k ≡ 2 → ⊥) → (k ≡ 127 → ⊥) → (3 ≤ k → k < 6 → ⊥) → (19 ≤ k → k < 22 → ⊥) → None ≡ shape_of k
 unfolding shape_of
 unknown_kind k n1 n2 n127 low high =
     simp (

@@ -5,10 +5,12 @@ use mathlib.Core.List.{List, []}
 use mathlib.Core.Path.{◌≡◌, refl, sym, ap, subst}
 use native.Mathlib.Omega.{arith}
 use lib.ListN.{length}
+use Rattle.std.specs.Prelude.{Result, Ok, Err}
 use Rattle.reading.specs.declared.Rule.{Rule}
+use Rattle.reading.specs.declared.refusals.Refusal.{Refusal}
 use Rattle.reading.specs.declared.steps.State.{State}
 use Rattle.reading.specs.declared.steps.Step.{Step}
-use Rattle.reading.specs.declared.steps.Step.TheVariants.{Refused, Opened, Begun, Ruled, Ended}
+use Rattle.reading.specs.declared.steps.Step.TheVariants.{Opened, Begun, Ruled, Ended}
 use Rattle.reading.specs.File.{step_of, Rest, stop, rest, new_table, with_rule, on_step, run, start}
 use Rattle.reading.proofs.Tests.{positive}
 use Rattle.reading.proofs.Onward.{OpenedOk, BegunOk, RuledOk, told_ok}
@@ -74,11 +76,11 @@ module _ (s : List ℕ) (st next : State) (k : StateOk s st) where
 
 -- With enough fuel, as the run goes.
 pub data Trail (s : List ℕ) : ℕ → State → Rest → Type 0 where
-  stops : {f n p : ℕ} {st : State} → StateOk s st → Refused n p ≡ step_of s st → Trail s (suc f) st (stop n p)
-  opens : {f : ℕ} {st next : State} {o : Rest} → StateOk s st → Opened next ≡ step_of s st → Trail s f next o → Trail s (suc f) st o
-  begins : {f : ℕ} {st next : State} {o : Rest} → StateOk s st → Begun next ≡ step_of s st → Trail s f next o → Trail s (suc f) st (new_table o)
-  rules : {f : ℕ} {st next : State} {o : Rest} {r : Rule} → StateOk s st → Ruled next r ≡ step_of s st → Trail s f next o → Trail s (suc f) st (with_rule r o)
-  ends : {f : ℕ} {st : State} → StateOk s st → Ended ≡ step_of s st → Trail s (suc f) st (rest st.width [] [])
+  stops : {f : ℕ} {st : State} {r : Refusal} → StateOk s st → Err r ≡ step_of s st → Trail s (suc f) st (stop r)
+  opens : {f : ℕ} {st next : State} {o : Rest} → StateOk s st → Ok (Opened next) ≡ step_of s st → Trail s f next o → Trail s (suc f) st o
+  begins : {f : ℕ} {st next : State} {o : Rest} → StateOk s st → Ok (Begun next) ≡ step_of s st → Trail s f next o → Trail s (suc f) st (new_table o)
+  rules : {f : ℕ} {st next : State} {o : Rest} {r : Rule} → StateOk s st → Ok (Ruled next r) ≡ step_of s st → Trail s f next o → Trail s (suc f) st (with_rule r o)
+  ends : {f : ℕ} {st : State} → StateOk s st → Ok Ended ≡ step_of s st → Trail s (suc f) st (rest st.width [] [])
 
 no_fuel : {n at : ℕ} → n < zero + at → at ≤ n → ⊥
 no_fuel h l = omega arith
@@ -88,18 +90,18 @@ module _ (s : List ℕ) where
   Ready f = (st : State) → StateOk s st → length s < f + st.at → Trail s f st (run f s st)
 
   turn : (f : ℕ) → Ready f → (st : State) → StateOk s st → length s < suc f + st.at
-      → (x : Step) → x ≡ step_of s st → Trail s (suc f) st (on_step st x (run f s))
+      → (x : Result Step Refusal) → x ≡ step_of s st → Trail s (suc f) st (on_step st x (run f s))
   unfolding on_step
-  turn f go st k room (Refused n p) e = stops k e
-  turn f go st k room (Opened next) e =
+  turn f go st k room (Err r) e = stops k e
+  turn f go st k room (Ok (Opened next)) e =
       let o = told_ok s st e in opens k e (go next (opened_ok s st next k o) (omega (arith, o.further)))
-  turn f go st k room (Begun next) e =
+  turn f go st k room (Ok (Begun next)) e =
       let o = told_ok s st e in
       begins k e (go next (begun_ok s st next k o) (omega (arith, ap (λ (x : State). x.at) o.goes)))
-  turn f go st k room (Ruled next r) e =
+  turn f go st k room (Ok (Ruled next r)) e =
       let o = told_ok s st e in
       rules k e (go next (ruled_ok s st next k o) (omega (arith, ap (λ (x : State). x.at) o.goes)))
-  turn f go st k room Ended e = ends k e
+  turn f go st k room (Ok Ended) e = ends k e
 
   pub trail : (f : ℕ) → Ready f
   unfolding run

@@ -1,9 +1,9 @@
 -- Paper 01, "The network file": one byte of kind, then a body whose length the kind fixes. Numbers are big-endian.
-use Rattle.std.specs.Prelude.{cond, List, [], ◌∷◌, ℕ, ◌+◌, ◌*◌, eqb, get_or}
+use Rattle.std.specs.Prelude.{Option, Some, None, cond, List, [], ◌∷◌, ℕ, ◌+◌, ◌*◌, eqb, get_or}
 use Rattle.reading.specs.declared.records.Notation.TheVariants.{Caring, Freeing}
 use Rattle.reading.specs.declared.records.Doing.TheVariants.{Forwards, Drops, Delivers}
 use Rattle.reading.specs.declared.records.Case.{Case}
-use Rattle.reading.specs.declared.records.Case.TheVariants.{Network, Table, Rule, End, Unknown}
+use Rattle.reading.specs.declared.records.Case.TheVariants.{Network, Table, Rule, End}
 use Rattle.reading.specs.declared.records.Shape.{Shape}
 
 abbrev pub byte_at : List ℕ → ℕ → ℕ
@@ -34,10 +34,10 @@ kinds =
     ∷ kind 0x7F End 0
     ∷ []
 
-abbrev pub find_kind : ℕ → List Kind → Shape
-find_kind k [] = record { case = Unknown; body = 0 }
-find_kind k (x ∷ xs) = cond (eqb k x.byte) x.shape (find_kind k xs)
+abbrev pub find_kind : ℕ → List Kind → Option Shape
+find_kind k [] = None
+find_kind k (x ∷ xs) = cond (eqb k x.byte) (Some x.shape) (find_kind k xs)
 
--- What a kind byte says; a kind that is not in the table is unknown.
-unfoldable pub shape_of : ℕ → Shape
+-- What a kind byte says; a kind that is not in the table says nothing.
+unfoldable pub shape_of : ℕ → Option Shape
 shape_of k = find_kind k kinds

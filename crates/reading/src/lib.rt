@@ -1,17 +1,20 @@
 // The network file: Read, the working arrays, and the lookup in a node's table.
 #![tactic(auto)]
 
-mod held;
 mod records;
+mod refusals;
 mod steps;
 
-ghost use Rattle.std.specs.Prelude.{◌≡◌, ◌+◌, ◌≤◌};
-ghost use Rattle.reading.specs.Network.{act};
+ghost use Rattle.std.specs.Prelude.{◌≡◌, ◌+◌, ◌≤◌, Ok};
+ghost use Rattle.reading.specs.Network.{next_by, act};
+ghost use Rattle.reading.specs.Code.{leads_in};
 ghost use Rattle.reading.specs.File.{read_of};
-ghost use Rattle.reading.specs.Arrays.{filled, cares_of, values_of, actions_of, firsts_of, begins_of, code_of, rules_in, found_at, Fits};
+ghost use Rattle.reading.specs.Arrays.{filled, patterns_of, actions_of, marks_of, rules_in, rules_left, found_at};
+ghost use Rattle.std.specs.Iterator.{YieldsFirst, item_count};
 
-use pattern::{Noted, Pattern};
-use records::Record;
+use pattern::{Pattern, Width};
+use records::{Record, Records};
+pub use refusals::{Reason, Refusal};
 use steps::{State, Step};
 
 // What a rule does with a header that matches it.
@@ -22,6 +25,25 @@ pub enum Action {
     Deliver,
 }
 
+impl Action {
+    // The next node after it; none at an end.
+    pub fn next(self) -> Option<u8>
+        ensures { result ≡ next_by self }
+    {
+        match self {
+            Action::Forward(next) => Some(next),
+            Action::Drop | Action::Deliver => None,
+        }
+    }
+
+    // Whether it leads to a node that is there.
+    fn leads(self, nodes: u8) -> bool
+        ensures { result ≡ leads_in nodes self }
+    {
+        self.next().is_none_or(|next| next < nodes)
+    }
+}
+
 // A rule of a node's table.
 #[derive(Clone, Copy)]
 pub struct Rule {
@@ -29,163 +51,120 @@ pub struct Rule {
     pub action: Action,
 }
 
-// What Read answers: the refusal's number and place, or width, node count and rule count.
-#[derive(Clone, Copy)]
-pub enum ReadAnswer {
-    Refused { number: u8, place: usize },
-    Accepted { width: u8, nodes: u8, rules: usize },
+// What Read says of a file that it accepts.
+#[derive(Clone, Copy, PartialEq, Eq)]
+pub struct Figures {
+    pub width: u8,
+    pub nodes: u8,
+    pub rules: usize,
 }
 
-// Before the first record.
-const START: State = State {
-    at: 0,
-    width: 0,
-    nodes: 0,
-    tables: 0,
-    rules: 0,
-};
+// Where a node's table begins: the number of its first rule in the file, and the place of its table record.
+#[derive(Clone, Copy, PartialEq, Eq)]
+pub struct Mark {
+    pub rule: usize,
+    pub place: usize,
+}
 
-// The figures of a file that ended in this state.
-fn accepted(st: State) -> ReadAnswer
-    ensures { result ≡ ReadAnswer.Accepted st.width st.nodes st.rules }
-{
-    ReadAnswer::Accepted {
-        width: st.width,
-        nodes: st.nodes,
-        rules: st.rules,
-    }
+// The working arrays: a rule's filter and action at its number in the file, and a mark at each node's number. After the last
+// node stands one more mark, with the rule count and the place of 7F.
+#[derive(Drop)]
+pub struct Arrays {
+    pub patterns: [Pattern; 256],
+    pub actions: [Action; 256],
+    pub marks: [Mark; 65],
+}
+
+impl Arrays {
+    // Before anything is read into them.
+    pub const EMPTY: Arrays = Arrays {
+        patterns: [Pattern::ALL_FREE; 256],
+        actions: [Action::Drop; 256],
+        marks: [Mark { rule: 0, place: 0 }; 65],
+    };
 }
 
 // Read: the whole file, by the one loop that reads files. The arrays end with the call.
-pub fn read(file: &[u8]) -> ReadAnswer
+pub fn read(file: &[u8]) -> Result<Figures, Refusal>
     ensures { result ≡ read_of file.now }
 {
-    let mut cares = [0u32; 256];
-    let mut values = [0u32; 256];
-    let mut actions = [0u8; 256];
-    let mut firsts = [0usize; 65];
-    let mut begins = [0usize; 65];
-    fill(
-        file,
-        &mut cares,
-        &mut values,
-        &mut actions,
-        &mut firsts,
-        &mut begins,
-    )
+    let mut arrays = Arrays::EMPTY;
+    fill(file, &mut arrays)
 }
 
-// An action as the working array holds it: the next node, 64 for drop, 65 for deliver.
-pub fn code_of(action: Action) -> u8
-    ensures { result ≡ code_of action }
-{
-    match action {
-        Action::Forward(next) => next,
-        Action::Drop => 64,
-        Action::Deliver => 65,
-    }
-}
-
-// A node's number as an index.
-fn wide(n: u8) -> usize
-    ensures { result ≡ n }
-{
-    n as usize
-}
-
-// Reads the file into the working arrays, a rule at its number in the file. Of node v, `firsts` has the number of the
-// first rule and `begins` the place of the table record; after the last node stand the rule count and the place of 7F.
-pub fn fill(
-    file: &[u8],
-    cares: &mut [u32; 256],
-    values: &mut [u32; 256],
-    actions: &mut [u8; 256],
-    firsts: &mut [usize; 65],
-    begins: &mut [usize; 65],
-) -> ReadAnswer
-    requires { Fits cares.old values.old actions.old firsts.old begins.old }
+// Reads the file into the working arrays. What the file does not reach stays as it was.
+pub fn fill(file: &[u8], arrays: &mut Arrays) -> Result<Figures, Refusal>
     ensures answer { result ≡ read_of file.now }
-    ensures cares { cares.new ≡ filled (cares_of file.now) cares.old }
-    ensures values { values.new ≡ filled (values_of file.now) values.old }
-    ensures actions { actions.new ≡ filled (actions_of file.now) actions.old }
-    ensures firsts { firsts.new ≡ filled (firsts_of file.now) firsts.old }
-    ensures begins { begins.new ≡ filled (begins_of file.now) begins.old }
+    ensures patterns { arrays.new.patterns ≡ filled (patterns_of file.now) arrays.old.patterns }
+    ensures actions { arrays.new.actions ≡ filled (actions_of file.now) arrays.old.actions }
+    ensures marks { arrays.new.marks ≡ filled (marks_of file.now) arrays.old.marks }
 {
-    let mut st = START;
+    let mut st = State::START;
     loop {
-        match steps::step_at(file, st) {
-            Step::Refused { number, place } => {
-                return ReadAnswer::Refused { number, place };
-            }
+        match st.step_at(file)? {
             Step::Opened(next) => {
                 st = next;
             }
             Step::Begun(next) => {
-                let v = wide(st.tables);
-                firsts[v] = st.rules;
-                begins[v] = st.at;
+                arrays.marks[usize::from(st.tables)] = st.mark();
                 st = next;
             }
             Step::Ruled(next, rule) => {
-                let i = st.rules;
-                let pattern = rule.pattern;
-                cares[i] = pattern.care;
-                values[i] = pattern.value;
-                let action = rule.action;
-                actions[i] = code_of(action);
+                arrays.patterns[st.rules] = rule.pattern;
+                arrays.actions[st.rules] = rule.action;
                 st = next;
             }
             Step::Ended => {
-                let v = wide(st.tables);
-                firsts[v] = st.rules;
-                begins[v] = st.at;
-                return accepted(st);
+                arrays.marks[usize::from(st.tables)] = st.mark();
+                return Ok(st.figures());
             }
         }
     }
 }
 
-// A rule that stands at a place, with the place after it.
-#[derive(Clone, Copy)]
-enum Found {
-    Good(Rule, usize),
-    Nothing,
+// The rule record at the reader's place in a table's part, if one stands there and its filter is good, with the place after it.
+fn found_at<'a>(records: Records<'a>, width: Width) -> Option<(Rule, usize)>
+    ensures { result ≡ found_at width.bits records.entry.file.now records.entry.at }
+{
+    let Record::Rule(written) = records.standing().ok()? else {
+        return None;
+    };
+    let pattern = written.filter(width).ok()?;
+    let action = written.action;
+    Some((Rule { pattern, action }, records.at + (1 + written.body)))
 }
 
-// The rule record at a place of a table's part, if one stands there and its filter is good.
-fn found_at(part: &[u8], at: usize, width: u8) -> Found
-    requires { width ≤ 32 }
-    ensures { result ≡ found_at width part.now at }
-{
-    match held::stands_at(part, at) {
-        Record::Rule(written) => match steps::noted(width, written) {
-            Noted::Fine(pattern) => {
-                let action = written.action;
-                Found::Good(Rule { pattern, action }, at + (1 + written.body))
-            }
-            _ => Found::Nothing,
-        },
-        _ => Found::Nothing,
+// The rules of a table's part, up to the first thing that is no good rule record.
+#[derive(Drop)]
+struct Rules<'a> {
+    records: Records<'a>,
+    width: Width,
+}
+
+impl<'a> Iterator for Rules<'a> {
+    type Item = Rule;
+
+    ghost next_gives = { YieldsFirst rules_left };
+
+    ghost remaining = { item_count rules_left };
+
+    fn next(&mut self) -> Option<Rule> {
+        let (rule, next) = found_at(self.records, self.width)?;
+        self.records = self.records.moved(next);
+        Some(rule)
     }
 }
 
 // What a node's table does with a query, from the table's part of the file: the first rule that contains the query acts.
-pub fn lookup(part: &[u8], width: u8, query: Pattern) -> Action
-    requires { width ≤ 32 }
-    ensures { result ≡ act (rules_in width part.now) query }
+pub fn lookup(part: &[u8], width: Width, query: Pattern) -> Action
+    ensures { result ≡ act (rules_in width.bits part.now) query }
 {
-    let mut at = 0;
-    loop {
-        match found_at(part, at, width) {
-            Found::Good(rule, next) => {
-                if query.within(rule.pattern) {
-                    return rule.action;
-                }
-                at = next;
-            }
-            Found::Nothing => {
-                return Action::Drop;
-            }
+    let records = Records::open(part);
+    let rules = Rules { records, width };
+    for rule in rules {
+        if query.within(rule.pattern) {
+            return rule.action;
         }
     }
+    Action::Drop
 }

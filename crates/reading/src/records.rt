@@ -1,9 +1,10 @@
 // The record reader: what stands at a place of the file, whatever the reading has met before it.
 ghost use Rattle.std.specs.Prelude.{◌≡◌, ◌+◌, ◌≤◌, ◌<◌, length};
 ghost use Rattle.reading.specs.Kinds.{shape_of, number_at};
-ghost use Rattle.reading.specs.Code.{rule_shape, written_at, action_at, whole_at, record_at, Whole};
+ghost use Rattle.reading.specs.Code.{noted_in, rule_shape, written_at, action_at, whole_at, record_at, Whole};
 
 use crate::Action;
+use pattern::{Flaw, Pattern, Width};
 
 // The two notations of a mask: its ones are the cared bits, or the free ones.
 #[derive(Clone, Copy)]
@@ -27,7 +28,6 @@ pub enum Case {
     Table,
     Rule(Notation, Doing),
     End,
-    Unknown,
 }
 
 // What the kind byte fixes: the record's case and the length of its body.
@@ -47,16 +47,33 @@ pub struct Written {
     pub body: usize,
 }
 
-// What stands at a place: a record with its fields, one that the file's end cuts short, a kind that is none, or the file's end.
+impl Written {
+    // The filter that it writes.
+    pub fn filter(self, width: Width) -> Result<Pattern, Flaw>
+        ensures { result ≡ noted_in width.bits self }
+    {
+        match self.notation {
+            Notation::Caring => Pattern::caring(width, self.mask, self.value),
+            Notation::Freeing => Pattern::freeing(width, self.mask, self.value),
+        }
+    }
+}
+
+// A record with its fields.
 #[derive(Clone, Copy)]
 pub enum Record {
     Network { width: u8, nodes: u8 },
     Table { node: u8 },
     Rule(Written),
     End,
-    Short(Case),
-    Unknown,
+}
+
+// Why no record is read at a place: the file ends there, the kind is none, or the file's end cuts the body short.
+#[derive(Clone, Copy)]
+pub enum Unread {
     Missing,
+    Unknown,
+    Short(Case),
 }
 
 // The rule kinds of one notation: the first forwards and names the next node after mask and value.
@@ -81,10 +98,10 @@ fn rule_shape(notation: Notation, nth: u8) -> Shape
 
 // The table of kinds.
 #[tactic(auto, using(crate::proofs::Shapes::caring_kinds, crate::proofs::Shapes::freeing_kinds, crate::proofs::Shapes::unknown_kind), unfolding(crate::specs::Kinds::shape_of))]
-pub fn shape_of(kind: u8) -> Shape
+pub fn shape_of(kind: u8) -> Option<Shape>
     ensures { result ≡ shape_of kind }
 {
-    match kind {
+    let shape = match kind {
         0x01 => Shape {
             case: Case::Network,
             body: 2,
@@ -99,90 +116,107 @@ pub fn shape_of(kind: u8) -> Shape
             case: Case::End,
             body: 0,
         },
-        _ => Shape {
-            case: Case::Unknown,
-            body: 0,
-        },
+        _ => return None,
+    };
+    Some(shape)
+}
+
+// The lent file, and the place of the record that is next.
+#[derive(Clone, Copy)]
+pub struct Records<'a> {
+    pub file: &'a [u8],
+    pub at: usize,
+}
+
+impl<'a> Records<'a> {
+    // The records of a file, from its beginning.
+    pub fn open(file: &'a [u8]) -> Records<'a>
+        ensures { (result.file ≡ file.entry) × (result.at ≡ 0) }
+    {
+        Records { file, at: 0 }
     }
-}
 
-// A byte as a number of 32 bits.
-fn wide(b: u8) -> u32
-    ensures { (result ≡ b) × (result < 256) }
-{
-    b as u32
-}
-
-// Four bytes as a big-endian number.
-fn number_at(file: &[u8], at: usize) -> u32
-    requires { at + 4 ≤ length file.now }
-    ensures { result ≡ number_at file.now at }
-{
-    let a = wide(file[at]);
-    let b = wide(file[at + 1]);
-    let c = wide(file[at + 2]);
-    let d = wide(file[at + 3]);
-    ((a * 256 + b) * 256 + c) * 256 + d
-}
-
-// What the rule record at a place does.
-fn action_at(file: &[u8], at: usize, doing: Doing) -> Action
-    requires { doing ≡ Doing.Forwards → at + 9 < length file.now }
-    ensures { result ≡ action_at file.now at doing }
-{
-    match doing {
-        Doing::Forwards => Action::Forward(file[at + 9]),
-        Doing::Drops => Action::Drop,
-        Doing::Delivers => Action::Deliver,
+    // The same file at another place.
+    pub fn moved(self, at: usize) -> Records<'a>
+        ensures { (result.file ≡ self.entry.file) × (result.at ≡ at) }
+    {
+        Records { at, ..self }
     }
-}
 
-// The rule record at a place, whose body is all there.
-fn rule_at(file: &[u8], at: usize, notation: Notation, doing: Doing, body: usize) -> Record
-    requires { Whole file.now at (Case.Rule notation doing) }
-    ensures { result ≡ written_at file.now at notation doing body }
-{
-    let action = action_at(file, at, doing);
-    Record::Rule(Written {
-        notation,
-        mask: number_at(file, at + 1),
-        value: number_at(file, at + 5),
-        action,
-        body,
-    })
-}
+    // Four bytes as a big-endian number, this far behind the place.
+    fn number(self, ahead: usize) -> u32
+        requires { self.at + ahead + 4 ≤ length self.file.now }
+        ensures { result ≡ number_at self.entry.file.now (self.entry.at + ahead) }
+    {
+        let at = self.at + ahead;
+        u32::from_be_bytes([
+            self.file[at],
+            self.file[at + 1],
+            self.file[at + 2],
+            self.file[at + 3],
+        ])
+    }
 
-// The record of a case at a place, whose body is all there.
-#[tactic(auto, unfolding(crate::specs::Code::whole_at))]
-fn whole_at(file: &[u8], at: usize, case: Case, body: usize) -> Record
-    requires { Whole file.now at case }
-    ensures { result ≡ whole_at file.now at case body }
-{
-    match case {
-        Case::Network => Record::Network {
-            width: file[at + 1],
-            nodes: file[at + 2],
-        },
-        Case::Table => Record::Table { node: file[at + 1] },
-        Case::Rule(notation, doing) => rule_at(file, at, notation, doing, body),
-        Case::End => Record::End,
-        Case::Unknown => Record::Unknown,
+    // What the rule record at the place does.
+    fn action(self, doing: Doing) -> Action
+        requires { doing ≡ Doing.Forwards → self.at + 9 < length self.file.now }
+        ensures { result ≡ action_at self.entry.file.now self.entry.at doing }
+    {
+        match doing {
+            Doing::Forwards => Action::Forward(self.file[self.at + 9]),
+            Doing::Drops => Action::Drop,
+            Doing::Delivers => Action::Deliver,
+        }
     }
-}
 
-// What stands at a place of the file.
-#[tactic(auto, using(crate::proofs::Places::short_record, crate::proofs::Places::whole_there, crate::proofs::Places::whole_record), unfolding(crate::specs::Code::record_at))]
-pub fn record_at(file: &[u8], at: usize) -> Record
-    ensures { result ≡ record_at file.now at }
-{
-    if file.len() <= at {
-        return Record::Missing;
+    // The rule record at the place, whose body is all there.
+    fn rule(self, notation: Notation, doing: Doing, body: usize) -> Record
+        requires { Whole self.file.now self.at (Case.Rule notation doing) }
+        ensures { result ≡ written_at self.entry.file.now self.entry.at notation doing body }
+    {
+        let action = self.action(doing);
+        Record::Rule(Written {
+            notation,
+            mask: self.number(1),
+            value: self.number(5),
+            action,
+            body,
+        })
     }
-    let shape = shape_of(file[at]);
-    let body = shape.body;
-    let case = shape.case;
-    if file.len() - at <= body {
-        return Record::Short(case);
+
+    // The record of a shape at the place, whose body is all there.
+    #[tactic(auto, unfolding(crate::specs::Code::whole_at))]
+    fn whole(self, shape: Shape) -> Record
+        requires { Whole self.file.now self.at shape.case }
+        ensures { result ≡ whole_at self.entry.file.now self.entry.at shape.case shape.body }
+    {
+        match shape.case {
+            Case::Network => Record::Network {
+                width: self.file[self.at + 1],
+                nodes: self.file[self.at + 2],
+            },
+            Case::Table => Record::Table {
+                node: self.file[self.at + 1],
+            },
+            Case::Rule(notation, doing) => self.rule(notation, doing, shape.body),
+            Case::End => Record::End,
+        }
     }
-    whole_at(file, at, case, body)
+
+    // What stands at the place.
+    #[tactic(auto, using(crate::proofs::Places::missing_record, crate::proofs::Places::unknown_record, crate::proofs::Places::short_record, crate::proofs::Places::whole_there, crate::proofs::Places::whole_record), unfolding(crate::specs::Code::record_at))]
+    pub fn standing(self) -> Result<Record, Unread>
+        ensures { result ≡ record_at self.entry.file.now self.entry.at }
+    {
+        if self.file.len() <= self.at {
+            return Err(Unread::Missing);
+        }
+        let Some(shape) = shape_of(self.file[self.at]) else {
+            return Err(Unread::Unknown);
+        };
+        if self.file.len() - self.at <= shape.body {
+            return Err(Unread::Short(shape.case));
+        }
+        Ok(self.whole(shape))
+    }
 }

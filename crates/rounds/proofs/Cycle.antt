@@ -9,6 +9,8 @@ use native.Mathlib.Omega.{arith}
 use lib.Dec.{eqb}
 use borrow.Author.Tests.{eq-eqb, ne_eqb, eqb-true, lt-ltb, le-ltb}
 use Rattle.rounds.specs.Rounds.{hops, OnCycle, back_in, returns_to}
+use Rattle.std.specs.Prelude.{Option, Some, None, get_or}
+use Rattle.std.specs.Option.{unwrap_or, IsSome}
 use Rattle.rounds.specs.Rows.{next_of}
 use Rattle.rounds.proofs.Pigeon.{pigeon, Repeat}
 
@@ -139,10 +141,26 @@ pub row_ends : (row : _) (n v : ℕ) → n ≤ v → n ≤ next_of row n v
 unfolding next_of
 row_ends row n v h = rw (le-ltb v n h) h
 
-pub row_next : (row : _) (n v : ℕ) → v < n → next_of row n v ≡ lib.ListN.get_or row v 0
+-- The next node is what is read of the row, and n where none is.
+pub next_read : (row : List (Option ℕ)) (n v next : ℕ) → v < n → get_or row v None ≡ Some next → next_of row n v ≡ next
 unfolding next_of
-row_next row n v h = rw (lt-ltb v n h)
+next_read row n v next h e = rw (lt-ltb v n h) (ap (λ o. unwrap_or o n) e)
 
--- The next node is what is read of the row.
-pub next_read : (row : List ℕ) (n v r : ℕ) → v < n → r ≡ lib.ListN.get_or row v 0 → next_of row n v ≡ r
-next_read row n v r h e = row_next row n v h ∙ sym e
+pub end_read : (row : List (Option ℕ)) (n v : ℕ) → v < n → get_or row v None ≡ None → next_of row n v ≡ n
+unfolding next_of
+end_read row n v h e = rw (lt-ltb v n h) (ap (λ o. unwrap_or o n) e)
+
+-- what comes back has a next node
+pub has_next : (row : List (Option ℕ)) (n v cur i : ℕ) → v < n → cur < n → i < n → back_in (next_of row n) v cur (n - i) ≡ true → IsSome (get_or row cur None)
+has_next row n v cur i lt inside less on = go (get_or row cur None) refl
+  where
+    f : ℕ → ℕ
+    f = next_of row n
+
+    go : (o : Option ℕ) → get_or row cur None ≡ o → IsSome o
+    go (Some next) e = refl
+    go None e =
+        let to : f cur ≡ n = end_read row n cur inside e in
+        let later : back_in f v n (n - (i + 1)) ≡ true =
+        ap (λ x. back_in f v x (n - (i + 1))) (sym to) ∙ sym (back_miss f n i v cur less (λ m. omega (arith, lt, sym to ∙ m))) ∙ on in
+        absurd (omega (arith, back_live f n (row_ends row n) v n (n - (i + 1)) lt later))

@@ -2,9 +2,7 @@
 -- to its own node is a cycle of one node. "Verdict and walk": the cycle starts at the lowest numbered node that lies on any cycle
 -- of that header and follows the hops, each node once; the rest of the 64 bytes are 255.
 -- For one header a network is a function f on nodes: f v is the next node after v. There are n nodes, and n or more is an end.
-use Rattle.std.specs.Prelude.{◌≡◌, Bool, false, cond, ◌||◌, List, [], ◌∷◌, ◌++◌, ℕ, zero, suc, ◌-◌, ◌≤◌, ◌<◌, length, replicate, drop, eqb}
-use Rattle.rounds.specs.declared.Lowest.{Lowest}
-use Rattle.rounds.specs.declared.Lowest.TheVariants.{Node, Nowhere}
+use Rattle.std.specs.Prelude.{◌≡◌, Bool, false, cond, ◌||◌, List, [], ◌∷◌, ◌++◌, ℕ, zero, suc, ◌-◌, ◌≤◌, ◌<◌, length, replicate, drop, eqb, Option, Some, None}
 
 -- Where k hops from v lead.
 unfoldable pub hops : (ℕ → ℕ) → ℕ → ℕ → ℕ
@@ -30,12 +28,12 @@ unfolding back_in
 returns_to f n v = back_in f v v n
 
 -- The first of the nodes v, v + 1, .. (k of them) that lies on a cycle.
-unfoldable pub low_from : (ℕ → ℕ) → ℕ → ℕ → ℕ → Lowest
-low_from f n v zero = Nowhere
-low_from f n v (suc k) = cond (returns_to f n v) (Node v) (low_from f n (suc v) k)
+unfoldable pub low_from : (ℕ → ℕ) → ℕ → ℕ → ℕ → Option ℕ
+low_from f n v zero = None
+low_from f n v (suc k) = cond (returns_to f n v) (Some v) (low_from f n (suc v) k)
 
 -- The lowest numbered node that lies on any cycle.
-unfoldable pub lowest : (ℕ → ℕ) → ℕ → Lowest
+unfoldable pub lowest : (ℕ → ℕ) → ℕ → Option ℕ
 unfolding low_from
 lowest f n = low_from f n 0 n
 
@@ -50,10 +48,10 @@ unfolding cycle_from
 cycle_of f n v = cycle_from f v v n
 
 -- The cycle from the lowest node; no nodes where there is none.
-unfoldable pub cycle_for : (ℕ → ℕ) → ℕ → Lowest → List ℕ
+unfoldable pub cycle_for : (ℕ → ℕ) → ℕ → Option ℕ → List ℕ
 unfolding cycle_of
-cycle_for f n (Node v) = cycle_of f n v
-cycle_for f n Nowhere = []
+cycle_for f n (Some v) = cycle_of f n v
+cycle_for f n None = []
 
 -- A byte list after a cycle is written to it: the cycle, 255 up to 64, and what it was past 64.
 abbrev pub cycle_bytes : List ℕ → List ℕ → List ℕ

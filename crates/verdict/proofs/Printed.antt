@@ -2,12 +2,15 @@
 use Prim.Native.Nat.{ℕ, ◌-◌, ◌≤◌, ◌<◌}
 use mathlib.Core.Bool.{false}
 use mathlib.Core.List.{List, [], ◌∷◌, ◌++◌, map}
-use mathlib.Core.Path.{◌≡◌, refl, sym, ap, ap₂, ◌∙◌}
+use mathlib.Core.Path.{◌≡◌, refl, ap, ap₂, ◌∙◌}
 use native.Mathlib.Omega.{arith}
 use borrow.Author.Tests.{le-leb}
 use lib.ListN.{length, get_or, drop, replicate}
+use Rattle.std.specs.Prelude.{Result, Err}
+use Rattle.reading.specs.declared.refusals.Refusal.{Refusal}
+use Rattle.reading.specs.Refusals.{number_of}
 use Rattle.reading.specs.Network.{Network, rules_of}
-use Rattle.reading.specs.File.{Parsed, accepted, parse}
+use Rattle.reading.specs.File.{accepted, parse}
 use Rattle.reading.proofs.Demand1.{accepted_is_bounded}
 use Rattle.classes.specs.Classes.{Entry, care_at, value_at, size_of}
 use Rattle.classes.proofs.Laid.{after, laid_split}
@@ -15,12 +18,11 @@ use Rattle.rounds.specs.Rounds.{cycle_bytes}
 use Rattle.rounds.proofs.Cycle.{live}
 use Rattle.judge.specs.declared.Verdict.{Verdict}
 use Rattle.judge.specs.declared.Verdict.TheVariants.{Free, Loop}
-use Rattle.judge.specs.declared.JudgeAnswer.{JudgeAnswer}
-use Rattle.judge.specs.declared.JudgeAnswer.TheVariants.{Refused}
+use Rattle.judge.specs.declared.Judged.{Judged}
 use Rattle.judge.specs.Forwarding.{nodes_of, hop, query_of}
 use Rattle.judge.specs.Verdicts.{verdict_of, cycle_in}
-use Rattle.judge.specs.Judging.{Lent, lent_of, Judgement, written, too_short, classes_of, judged_of, on_parsed, judge_of}
-use Rattle.judge.proofs.JudgeLaws.{fine, judge_long}
+use Rattle.judge.specs.Judging.{Lent, lent_of, Judgement, written, too_short, classes_of, judged_of, judge_of}
+use Rattle.judge.proofs.JudgeLaws.{fine}
 use Rattle.judge.proofs.Demand2.{ends_stay, cycle_says}
 use Rattle.printing.specs.Text.{word, decimal, header_letters}
 use Rattle.printing.specs.Lines.{refused_line, counts_line, classes_line, class_line, nodes, verdict_line, class_lines, lines, joined}
@@ -56,14 +58,14 @@ module _ (net : Network) where
 -- ---- the lines
 
 -- A refusal prints one line only.
-pub refused_line_lem : (file : List ℕ) (old : Lent) (number place : ℕ) → (judge_of file old).answer ≡ Refused number place
-    → lines (judge_of file old).answer (judge_of file old).lent ≡ refused_line number place ∷ []
-refused_line_lem file old number place e = ap (λ (a : JudgeAnswer). lines a (judge_of file old).lent) e
+pub refused_line_lem : (file : List ℕ) (old : Lent) (r : Refusal) → (judge_of file old).answer ≡ Err r
+    → lines (judge_of file old).answer (judge_of file old).lent ≡ refused_line (number_of r.reason) r.place ∷ []
+refused_line_lem file old r e = ap (λ (a : Result Judged Refusal). lines a (judge_of file old).lent) e
 
 module _ (file : List ℕ) (old : Lent) (net : Network) (long : too_short old ≡ false) (e : parse file ≡ accepted net) (few : length (classes_of net) ≤ 512) where
   judged : judge_of file old ≡ fine net old
-  unfolding judged_of
-  judged = judge_long file old (sym long) ∙ ap (λ (p : Parsed). on_parsed p old) e ∙ simp (le-leb (length (classes_of net)) 512 few)
+  unfolding judge_of judged_of
+  judged = simp (long, e, le-leb (length (classes_of net)) 512 few)
 
   pub printed-lines : length old.cycle ≡ 64
       → lines (judge_of file old).answer (judge_of file old).lent

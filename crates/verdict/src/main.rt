@@ -2,11 +2,10 @@
 #![tactic(auto)]
 
 ghost use Rattle.std.specs.Prelude.{◌≤◌, length};
-ghost use Rattle.printing.specs.Asked.{Bounded, Lengths};
-ghost use Rattle.judge.specs.Judging.{lent_of};
 
-use judge::JudgeAnswer;
-use std::io::{Read, Write};
+use printing::Printed;
+use std::io;
+use std::io::Read;
 
 // Reads standard input until the buffer is full or the input gives no more, and says how many bytes the buffer then holds.
 fn read_full(rt: &HostRuntime, file: &mut [u8]) -> usize
@@ -23,31 +22,15 @@ fn read_full(rt: &HostRuntime, file: &mut [u8]) -> usize
     got
 }
 
-// Writes the lines of an answer through one small buffer, as long as the output takes them.
-fn print(
-    rt: &HostRuntime,
-    answer: JudgeAnswer,
-    cares: &[u32],
-    values: &[u32],
-    sizes: &[u64],
-    cycle: &[u8],
-)
-    requires bounded { Bounded answer }
-    requires lengths { Lengths (lent_of cares.now values.now sizes.now cycle.now) }
-{
-    let mut output = rt.stdout();
-    let mut line = [0u8; 300];
-    let count = printing::line_count(answer);
-    let mut k = 0;
-    while k < count {
-        let end = printing::put_line(&mut line, k, answer, cares, values, sizes, cycle);
-        if output.write_all(&line[..end]).is_err() {
-            return;
-        }
-        k += 1;
+// Writes the lines of an answer, each by a call of its own, as long as the output takes them.
+fn print(rt: &HostRuntime, printed: Printed) -> io::Result<()> {
+    for line in printed.lines() {
+        rt.print(line)?;
     }
+    Ok(())
 }
 
+#[tactic(auto, using(crate::proofs::Answer::answer_bounded))]
 fn main(rt: HostRuntime) {
     // 4,096 bytes: what the file has after these is never read.
     let mut file = [0u8; 4096];
@@ -63,5 +46,13 @@ fn main(rt: HostRuntime) {
         &mut sizes,
         &mut cycle,
     );
-    print(&rt, answer, &cares, &values, &sizes, &cycle);
+    let printed = Printed {
+        answer,
+        cares: &cares,
+        values: &values,
+        sizes: &sizes,
+        cycle: &cycle,
+    };
+    // Where the output takes no more, nothing is left to say.
+    let _ = print(&rt, printed);
 }

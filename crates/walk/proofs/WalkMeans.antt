@@ -10,10 +10,13 @@ use native.Mathlib.Decide.{ℕ_discrete, dec_lt}
 use native.Mathlib.Omega.{arith}
 use lib.Dec.{eqb}
 use lib.ListN.{get_or}
+use Rattle.std.proofs.Math.Bool.{or-true}
 use borrow.Author.Tests.{eqb-true, eq-eqb, lt-ltb, ltb-true}
+use Rattle.std.specs.Prelude.{Result, Ok, Err}
 use Rattle.pattern.specs.declared.Pattern.{Pattern}
 use Rattle.reading.specs.declared.Action.{Action}
 use Rattle.reading.specs.declared.Action.TheVariants.{Forward, Drop, Deliver}
+use Rattle.reading.specs.declared.refusals.Refusal.{Refusal}
 use Rattle.reading.specs.Network.{Network}
 use Rattle.reading.specs.File.{Parsed, accepted, parse}
 use Rattle.reading.specs.Code.{leads_in}
@@ -23,11 +26,11 @@ use Rattle.rounds.proofs.Pigeon.{pigeon}
 use Rattle.rounds.proofs.Cycle.{hops_add, ended, live}
 use Rattle.judge.specs.Forwarding.{nodes_of, act_at, hop, query_of}
 use Rattle.judge.proofs.Demand2.{ends_stay}
-use Rattle.walk.specs.declared.WalkAnswer.{WalkAnswer}
-use Rattle.walk.specs.declared.WalkAnswer.TheVariants.{Refused, Delivered, Dropped, Circling}
+use Rattle.walk.specs.declared.Outcome.{Outcome}
+use Rattle.walk.specs.declared.Outcome.TheVariants.{Delivered, Dropped, Circling}
 use Rattle.walk.specs.Walking.{is_in, on_action, walk_from, walk_through, walk_read, walk_of}
 use Rattle.walk.proofs.WalkSteps.{by_walk}
-use Rattle.walk.proofs.WalkTables.{act-leads, every_table}
+use Rattle.judge.proofs.FromFile.{act-leads, every_table}
 
 -- ---- what is claimed, of a query from a start
 
@@ -53,11 +56,11 @@ pub record Repeats (net : Network) (query : Pattern) (start node h : ℕ) : Type
   pub apart : Apart (hop net query) start before
   pub few : h ≤ nodes_of net
 
-abbrev pub Means : Network → Pattern → ℕ → WalkAnswer → Type 0
-Means net query start (Refused number place) = ⊥
-Means net query start (Delivered node h) = EndsAt net query start node h Deliver
-Means net query start (Dropped node h) = EndsAt net query start node h Drop
-Means net query start (Circling node h) = Repeats net query start node h
+abbrev pub Means : Network → Pattern → ℕ → Result Outcome Refusal → Type 0
+Means net query start (Err r) = ⊥
+Means net query start (Ok (Delivered node h)) = EndsAt net query start node h Deliver
+Means net query start (Ok (Dropped node h)) = EndsAt net query start node h Drop
+Means net query start (Ok (Circling node h)) = Repeats net query start node h
 
 -- Following the hops from the start comes to a node that lies on a cycle.
 pub record RoundFrom (net : Network) (query : Pattern) (start : ℕ) : Type 0 where
@@ -65,11 +68,11 @@ pub record RoundFrom (net : Network) (query : Pattern) (start : ℕ) : Type 0 wh
   pub node : hops (hop net query) far start < nodes_of net
   pub on_cycle : OnCycle (hop net query) (hops (hop net query) far start)
 
-abbrev pub Circles : WalkAnswer → Type 0
-Circles (Refused number place) = ⊥
-Circles (Delivered node h) = ⊥
-Circles (Dropped node h) = ⊥
-Circles (Circling node h) = Unit {0}
+abbrev pub Circles : Result Outcome Refusal → Type 0
+Circles (Err r) = ⊥
+Circles (Ok (Delivered node h)) = ⊥
+Circles (Ok (Dropped node h)) = ⊥
+Circles (Ok (Circling node h)) = Unit {0}
 
 -- ---- the walk
 
@@ -96,10 +99,6 @@ module _ (net : Network) (query : Pattern) (leads : (v : ℕ) → v < nodes_of n
       each : (i : ℕ) → i ≤ h → is_in (hops (hop net query) i start) met ≡ true
       alive : (i : ℕ) → i ≤ h → hops (hop net query) i start < nodes_of net
       apart : Apart (hop net query) start h
-
-    or-true : (b : Bool) → b || true ≡ true
-    or-true true = refl
-    or-true false = refl
 
     inside_of : (met : List ℕ) (node h : ℕ) → Met met node h → node < nodes_of net
     inside_of met node h m = subst (λ (v : ℕ). v < nodes_of net) m.here (m.alive h (omega arith))
@@ -156,7 +155,7 @@ module _ (net : Network) (query : Pattern) (leads : (v : ℕ) → v < nodes_of n
 
         fork : (w : ℕ) → act_at net query node ≡ Forward w → w < nodes_of net → (b : Bool) → is_in w met ≡ b
             → (Met (w ∷ met) w (suc h) → Means net query start (walk_from (act_at net query) (w ∷ met) w (suc h) k))
-            → Means net query start (cond b (Circling w (suc h)) (walk_from (act_at net query) (w ∷ met) w (suc h) k))
+            → Means net query start (cond b (Ok (Circling w (suc h))) (walk_from (act_at net query) (w ∷ met) w (suc h) k))
         fork w e lw true t rec =
             record {
               before = h;
@@ -200,11 +199,11 @@ module _ (net : Network) (query : Pattern) (leads : (v : ℕ) → v < nodes_of n
 
     -- ---- circling is going round from the start
 
-    pub circles_round : (answer : WalkAnswer) → Means net query start answer → Circles answer → RoundFrom net query start
-    circles_round (Refused number place) m c = absurd c
-    circles_round (Delivered node h) m c = absurd c
-    circles_round (Dropped node h) m c = absurd c
-    circles_round (Circling node h) m c =
+    pub circles_round : (answer : Result Outcome Refusal) → Means net query start answer → Circles answer → RoundFrom net query start
+    circles_round (Err r) m c = absurd c
+    circles_round (Ok (Delivered node h)) m c = absurd c
+    circles_round (Ok (Dropped node h)) m c = absurd c
+    circles_round (Ok (Circling node h)) m c =
         let i : ℕ = m.entered.0 in
         let d : ℕ = h - i in
         record {
@@ -247,11 +246,11 @@ module _ (net : Network) (query : Pattern) (leads : (v : ℕ) → v < nodes_of n
             plus : (far : ℕ) → (h < far → ⊥) → suc h - far + far ≡ suc h
             plus far more = omega arith
 
-    pub round_circles : (answer : WalkAnswer) → Means net query start answer → RoundFrom net query start → Circles answer
-    round_circles (Refused number place) m g = m
-    round_circles (Delivered node h) m g = no_round node h m.there (hop_deliver node m.inside m.acts) g
-    round_circles (Dropped node h) m g = no_round node h m.there (hop-drop node m.inside m.acts) g
-    round_circles (Circling node h) m g = tt
+    pub round_circles : (answer : Result Outcome Refusal) → Means net query start answer → RoundFrom net query start → Circles answer
+    round_circles (Err r) m g = m
+    round_circles (Ok (Delivered node h)) m g = no_round node h m.there (hop_deliver node m.inside m.acts) g
+    round_circles (Ok (Dropped node h)) m g = no_round node h m.there (hop-drop node m.inside m.acts) g
+    round_circles (Ok (Circling node h)) m g = tt
 
 -- ---- Walk
 

@@ -1,141 +1,98 @@
 // Walk: one header from one node through the working arrays.
 #![tactic(auto)]
 
-ghost use Rattle.std.specs.Prelude.{◌≡◌, [], ◌∷◌, ◌≤◌, ◌<◌};
-ghost use Rattle.walk.specs.Walking.{walk_from, walk_by, walk_of};
-ghost use Rattle.walk.specs.Steps.{acts_in, Within};
+ghost use Rattle.std.specs.Prelude.{◌≡◌, ◌<◌};
+ghost use Rattle.walk.specs.Walking.{walk_through, walk_by, walk_of};
+ghost use Rattle.walk.specs.Steps.{acts_in, TablesIn};
 
-use pattern::Pattern;
-use reading::ReadAnswer;
+use pattern::Width;
+use reading::{Action, Arrays, Reason, Refusal};
 
-// What Walk answers: the refusal's number and place, or the outcome with its node and hops.
-#[derive(Clone, Copy)]
-pub enum WalkAnswer {
-    Refused { number: u8, place: usize },
+// How a walk ends: at which node, after how many hops.
+#[derive(Clone, Copy, PartialEq, Eq)]
+pub enum Outcome {
     Delivered { node: u8, hops: u8 },
     Dropped { node: u8, hops: u8 },
+    // The node is the first that is entered again.
     Circling { node: u8, hops: u8 },
 }
 
-// The action byte that delivers. A byte below the node count forwards, and any other drops.
-const DELIVER: u8 = 65;
-
-// Follows the header from the start: over the hops, and inside over the rules of the node's table. `seen` has a 1 at each node entered.
-fn follow(
-    cares: &[u32; 256],
-    values: &[u32; 256],
-    actions: &[u8; 256],
-    firsts: &[usize; 65],
+// The tables of a network's nodes, as they stand in the working arrays.
+#[derive(Clone, Copy)]
+struct Tables<'a> {
+    arrays: &'a Arrays,
     nodes: u8,
-    header: u32,
-    start: u8,
-) -> WalkAnswer
-    requires few { nodes ≤ 64 }
-    requires begins { start < nodes }
-    requires within { Within firsts.now nodes }
-    ensures { result ≡ walk_from (acts_in cares.now values.now actions.now firsts.now nodes header) (start ∷ []) start 0 nodes }
-{
-    let mut seen = [0u8; 64];
-    seen[rounds::wide(start)] = 1;
-    let mut node = start;
-    let mut hops: u8 = 0;
-    let outcome = 'walk: loop {
-        if hops == nodes {
-            break 'walk WalkAnswer::Refused {
-                number: 16,
-                place: 0,
-            };
-        }
-        let v = rounds::wide(node);
-        let mut i = firsts[v];
-        let end = firsts[v + 1];
-        while i < end {
-            let p = Pattern {
-                care: cares[i],
-                value: values[i],
-            };
-            if p.hits(header) {
-                let next = actions[i];
-                if next == DELIVER {
-                    break 'walk WalkAnswer::Delivered { node, hops };
-                }
-                if nodes <= next {
-                    break 'walk WalkAnswer::Dropped { node, hops };
-                }
-                hops += 1;
-                let w = rounds::wide(next);
-                if seen[w] == 1 {
-                    break 'walk WalkAnswer::Circling { node: next, hops };
-                }
-                seen[w] = 1;
-                node = next;
-                continue 'walk;
-            }
-            i += 1;
-        }
-        break 'walk WalkAnswer::Dropped { node, hops };
-    };
-    outcome
+    ghost stand: { TablesIn arrays.now nodes },
 }
 
-// The checks of the header and of the start node, then the walk.
-#[tactic(auto, using(crate::proofs::WalkSteps::some_header, crate::proofs::WalkSteps::by_14, crate::proofs::WalkSteps::by_15, crate::proofs::WalkSteps::by_walk))]
-fn walk_read(
-    cares: &[u32; 256],
-    values: &[u32; 256],
-    actions: &[u8; 256],
-    firsts: &[usize; 65],
-    width: u8,
-    nodes: u8,
-    header: u64,
-    start: u8,
-) -> WalkAnswer
-    requires narrow { width ≤ 32 }
-    requires few { nodes ≤ 64 }
-    requires within { Within firsts.now nodes }
-    ensures { result ≡ walk_by (acts_in cares.now values.now actions.now firsts.now nodes header) width nodes header start }
-{
-    let most = pattern::low_ones(width) as u64;
-    if most < header {
-        return WalkAnswer::Refused {
-            number: 14,
-            place: 0,
+impl Tables<'_> {
+    // Follows the header from the start: over the hops, and inside over the rules of the node's table.
+    fn follow(self, header: u32, start: u8) -> Result<Outcome, Refusal>
+        requires { start < self.nodes }
+        ensures { result ≡ walk_through (acts_in self.entry.arrays.now header) self.entry.nodes start }
+    {
+        // The nodes entered.
+        let mut seen = [false; 64];
+        seen[usize::from(start)] = true;
+        let mut node = start;
+        let mut hops: u8 = 0;
+        let arrays = self.arrays;
+        let outcome = 'walk: loop {
+            if hops == self.nodes {
+                break 'walk Err(Reason::NoEnd.at(0));
+            }
+            let v = usize::from(node);
+            for i in arrays.marks[v].rule..arrays.marks[v + 1].rule {
+                if arrays.patterns[i].hits(header) {
+                    match arrays.actions[i] {
+                        Action::Deliver => break 'walk Ok(Outcome::Delivered { node, hops }),
+                        Action::Drop => break 'walk Ok(Outcome::Dropped { node, hops }),
+                        Action::Forward(next) => {
+                            hops += 1;
+                            let w = usize::from(next);
+                            if seen[w] {
+                                break 'walk Ok(Outcome::Circling { node: next, hops });
+                            }
+                            seen[w] = true;
+                            node = next;
+                            continue 'walk;
+                        }
+                    }
+                }
+            }
+            break 'walk Ok(Outcome::Dropped { node, hops });
         };
+        outcome
     }
-    if nodes <= start {
-        return WalkAnswer::Refused {
-            number: 15,
-            place: 0,
-        };
+
+    // The checks of the header and of the start node, then the walk.
+    #[tactic(auto, using(crate::proofs::WalkSteps::by_14, crate::proofs::WalkSteps::by_15, crate::proofs::WalkSteps::by_walk))]
+    fn walk(self, width: Width, header: u64, start: u8) -> Result<Outcome, Refusal>
+        ensures { result ≡ walk_by (acts_in self.entry.arrays.now header) width.bits self.entry.nodes header start }
+    {
+        if width.headers() <= header {
+            return Err(Reason::WideHeader.at(0));
+        }
+        if self.nodes <= start {
+            return Err(Reason::NoSuchStart.at(0));
+        }
+        self.follow(header as u32, start)
     }
-    follow(cares, values, actions, firsts, nodes, header as u32, start)
 }
 
 // Walk: follows a header from a start node.
-pub fn walk(file: &[u8], header: u64, start: u8) -> WalkAnswer
+#[tactic(auto, using(crate::proofs::WalkTables::walk_refused))]
+pub fn walk(file: &[u8], header: u64, start: u8) -> Result<Outcome, Refusal>
     ensures { result ≡ walk_of file.now header start }
 {
-    let mut cares = [0u32; 256];
-    let mut values = [0u32; 256];
-    let mut actions = [0u8; 256];
-    let mut firsts = [0usize; 65];
-    let mut begins = [0usize; 65];
-    let read = reading::fill(
-        file,
-        &mut cares,
-        &mut values,
-        &mut actions,
-        &mut firsts,
-        &mut begins,
-    );
-    match read {
-        ReadAnswer::Refused { number, place } => WalkAnswer::Refused { number, place },
-        ReadAnswer::Accepted {
-            width,
-            nodes,
-            rules: _,
-        } => walk_read(
-            &cares, &values, &actions, &firsts, width, nodes, header, start,
-        ),
-    }
+    let mut arrays = Arrays::EMPTY;
+    let figures = reading::fill(file, &mut arrays)?;
+    let tables = Tables {
+        arrays: &arrays,
+        nodes: figures.nodes,
+    };
+    let width = Width {
+        bits: figures.width,
+    };
+    tables.walk(width, header, start)
 }

@@ -1,61 +1,65 @@
--- The working arrays are filled. Between two records each holds its numbers of the records taken in (`Filling`).
-use mathlib.Core.Path.{sym, ◌∙◌}
+-- The working arrays are filled. Between two records each holds its notes of the records taken in (`Filling`).
+use mathlib.Core.Path.{sym, ap, ◌∙◌}
+use Rattle.std.specs.Prelude.{Ok}
+use Rattle.std.proofs.Common.{rules}
+use Rattle.std.proofs.lemmas.Result.{err_from_is_err_and}
 use Rattle.reading.proofs.Progress.{known_refused, known_ended, less_opened, less_begun, less_ruled}
 use Rattle.reading.proofs.Filling.{filling_starts, filling_opened, filling_begun, filling_ruled, filled_refused, filled_ended, rule_place}
 use Rattle.reading.proofs.fill.Goals as goal
 
-pub loop-number-init : goal.loop-number-init
-loop-number-init c = filling_starts _ _ _ _ _ _ c.requires
+pub loop-next-init : goal.loop-next-init
+loop-next-init c = filling_starts _ _ (record { patterns = search rules; actions = search rules; marks = search rules })
 
-pub returns-in-Refused : goal.returns-in-Refused
-returns-in-Refused c =
-    let e = sym c.in-Refused.is ∙ c.step_at.ensures in
-    let k = filled_refused _ _ _ _ _ _ _ _ _ _ _ _ c.loop-number.invariant e in
+pub returns-in_err-next : goal.returns-in_err-next
+returns-in_err-next c =
+    let e = sym c.in_err-next.was ∙ c.step_at.ensures in
+    let p = err_from_is_err_and c.from_residual.result c.from_residual.ensures.1 in
+    let k = filled_refused _ _ _ _ c.loop-next.invariant e in
     record {
-      answer = known_refused _ _ _ c.loop-number.invariant.known e;
-      cares = k.0;
-      values = k.1.0;
-      actions = k.1.1.0;
-      firsts = k.1.1.1.0;
-      begins = k.1.1.1.1;
+      answer = rw (p.1, p.2) (known_refused _ _ _ c.loop-next.invariant.known e);
+      patterns = k.patterns;
+      actions = k.actions;
+      marks = k.marks;
     }
 
-pub loop-number-smaller-in-Opened : goal.loop-number-smaller-in-Opened
-loop-number-smaller-in-Opened c = less_opened _ _ _ c.loop-number.invariant.known (sym c.in-Opened.is ∙ c.step_at.ensures)
+pub loop-next-smaller-in-Opened : goal.loop-next-smaller-in-Opened
+loop-next-smaller-in-Opened c =
+    less_opened _ _ _ c.loop-next.invariant.known (ap Ok (sym c.in-Opened.is) ∙ sym c.in_ok-next.was ∙ c.step_at.ensures)
 
-pub loop-number-preserved-in-Opened : goal.loop-number-preserved-in-Opened
-loop-number-preserved-in-Opened c = filling_opened _ _ _ _ _ _ _ _ _ _ _ _ c.loop-number.invariant (sym c.in-Opened.is ∙ c.step_at.ensures)
+pub loop-next-preserved-in-Opened : goal.loop-next-preserved-in-Opened
+loop-next-preserved-in-Opened c =
+    filling_opened _ _ _ _ c.loop-next.invariant (ap Ok (sym c.in-Opened.is) ∙ sym c.in_ok-next.was ∙ c.step_at.ensures)
 
-pub loop-number-smaller-in-Begun : goal.loop-number-smaller-in-Begun
-loop-number-smaller-in-Begun c = less_begun _ _ _ c.loop-number.invariant.known (sym c.in-Begun.is ∙ c.step_at.ensures)
+pub loop-next-smaller-in-Begun : goal.loop-next-smaller-in-Begun
+loop-next-smaller-in-Begun c =
+    less_begun _ _ _ c.loop-next.invariant.known (ap Ok (sym c.in-Begun.is) ∙ sym c.in_ok-next.was ∙ c.step_at.ensures)
 
-pub loop-number-preserved-in-Begun : goal.loop-number-preserved-in-Begun
-loop-number-preserved-in-Begun c = filling_begun _ _ _ _ _ _ _ _ _ _ _ _ c.loop-number.invariant c.wide-v.ensures (sym c.in-Begun.is ∙ c.step_at.ensures)
+pub loop-next-preserved-in-Begun : goal.loop-next-preserved-in-Begun
+loop-next-preserved-in-Begun c =
+    rw (c.from.ensures, c.mark.ensures)
+    (filling_begun _ _ _ _ c.loop-next.invariant (ap Ok (sym c.in-Begun.is) ∙ sym c.in_ok-next.was ∙ c.step_at.ensures))
 
-pub bounds-cares-i : goal.bounds-cares-i
-bounds-cares-i c = rule_place _ _ _ _ _ _ _ _ _ _ _ _ c.loop-number.invariant (sym c.in-Ruled.is ∙ c.step_at.ensures)
+pub bounds-arrays-st : goal.bounds-arrays-st
+bounds-arrays-st c = rule_place _ _ _ _ c.loop-next.invariant (ap Ok (sym c.in-Ruled.is) ∙ sym c.in_ok-next.was ∙ c.step_at.ensures)
 
-pub bounds-values-i : goal.bounds-values-i
-bounds-values-i c = rule_place _ _ _ _ _ _ _ _ _ _ _ _ c.loop-number.invariant (sym c.in-Ruled.is ∙ c.step_at.ensures)
+pub bounds-arrays-st-in-Ruled : goal.bounds-arrays-st-in-Ruled
+bounds-arrays-st-in-Ruled c = rule_place _ _ _ _ c.loop-next.invariant (ap Ok (sym c.in-Ruled.is) ∙ sym c.in_ok-next.was ∙ c.step_at.ensures)
 
-pub bounds-actions-i : goal.bounds-actions-i
-bounds-actions-i c = rule_place _ _ _ _ _ _ _ _ _ _ _ _ c.loop-number.invariant (sym c.in-Ruled.is ∙ c.step_at.ensures)
+pub loop-next-smaller : goal.loop-next-smaller
+loop-next-smaller c =
+    less_ruled _ _ _ c.loop-next.invariant.known (ap Ok (sym c.in-Ruled.is) ∙ sym c.in_ok-next.was ∙ c.step_at.ensures)
 
-pub loop-number-smaller : goal.loop-number-smaller
-loop-number-smaller c = less_ruled _ _ _ c.loop-number.invariant.known (sym c.in-Ruled.is ∙ c.step_at.ensures)
-
-pub loop-number-preserved : goal.loop-number-preserved
-loop-number-preserved c = filling_ruled _ _ _ _ _ _ _ _ _ _ _ _ c.loop-number.invariant c.code_of.ensures (sym c.in-Ruled.is ∙ c.step_at.ensures)
+pub loop-next-preserved : goal.loop-next-preserved
+loop-next-preserved c =
+    filling_ruled _ _ _ _ c.loop-next.invariant (ap Ok (sym c.in-Ruled.is) ∙ sym c.in_ok-next.was ∙ c.step_at.ensures)
 
 pub returns-in-Ended : goal.returns-in-Ended
 returns-in-Ended c =
-    let e = sym c.in-Ended.is ∙ c.step_at.ensures in
-    let k = filled_ended _ _ _ _ _ _ _ _ _ _ _ _ c.loop-number.invariant c.wide-v-in-Ended.ensures e in
+    let e = ap Ok (sym c.in-Ended.is) ∙ sym c.in_ok-next.was ∙ c.step_at.ensures in
+    let k = filled_ended _ _ _ _ c.loop-next.invariant e in
     record {
-      answer = c.accepted.ensures ∙ known_ended _ _ _ c.loop-number.invariant.known e;
-      cares = k.0;
-      values = k.1.0;
-      actions = k.1.1.0;
-      firsts = k.1.1.1.0;
-      begins = k.1.1.1.1;
+      answer = ap Ok c.figures.ensures ∙ known_ended _ _ _ c.loop-next.invariant.known e;
+      patterns = k.patterns;
+      actions = k.actions;
+      marks = rw (c.from-in-Ended.ensures, c.mark-in-Ended.ensures) k.marks;
     }

@@ -4,8 +4,8 @@ use lib.ListN.{length}
 use Rattle.reading.proofs.Filling.{Filling}
 use Rattle.reading.proofs.fill.Given as goal
 
-abbrev pub invariant-loop-number : goal.invariant-loop-number
-invariant-loop-number l = Filling l.file l.initial.cares l.initial.values l.initial.actions l.initial.firsts l.initial.begins l.cares l.values l.actions l.firsts l.begins l.st
+abbrev pub invariant-loop-next : goal.invariant-loop-next
+invariant-loop-next l = Filling l.file l.initial.arrays l.arrays l.st
 
-abbrev pub decreases-loop-number : goal.decreases-loop-number
-decreases-loop-number l = length l.file - l.st.at
+abbrev pub decreases-loop-next : goal.decreases-loop-next
+decreases-loop-next l = length l.file - l.st.at

@@ -1,27 +1,34 @@
 -- The rule record at a place of a table's part.
 use native.Mathlib.Omega.{arith}
 use mathlib.Core.Path.{sym, ap, ◌∙◌}
-use Rattle.reading.specs.Arrays.{good_rule, found_in, found_at}
+use Rattle.std.specs.Result.{result_ok}
 use Rattle.reading.proofs.Places.{inside_as}
-use Rattle.reading.proofs.Others.{no_rule, no_filter}
+use Rattle.reading.proofs.Looking.{nothing_read, no_rule_read, rule_read, no_filter_read, filter_read}
 use Rattle.reading.proofs.found_at.Goals as goal
+
+pub returns-in_err-written : goal.returns-in_err-written
+returns-in_err-written c = rw c.from_residual.ensures (nothing_read _ _ _ _ c.standing.ensures (sym c.ok.ensures.value ∙ c.in_err-written.was))
+
+pub returns-in_default : goal.returns-in_default
+returns-in_default c = no_rule_read _ _ _ _ c.standing.ensures (sym c.ok.ensures.value ∙ c.in_ok-written.was) c.in_default.not-Rule
+
+pub returns-in_err-pattern : goal.returns-in_err-pattern
+returns-in_err-pattern c =
+    rw c.from_residual-in_err-pattern.ensures
+    (no_filter_read _ _ _ _ c.standing.ensures (sym c.ok.ensures.value ∙ c.in_ok-written.was) _ c.in-Rule.is
+    (ap result_ok (sym c.filter.ensures) ∙ sym c.ok-2.ensures.value ∙ c.in_err-pattern.was))
 
 pub overflow_add-result : goal.overflow_add-result
 overflow_add-result c =
-    let i = inside_as c.args.part.now c.args.at (sym c.in-Rule.is ∙ c.stands_at.ensures) in omega (arith, i.2)
+    let i = inside_as _ _ (rule_read c.args.width.bits _ _ _ c.standing.ensures (sym c.ok.ensures.value ∙ c.in_ok-written.was) _ c.in-Rule.is) in
+    omega (arith, i.2)
 
-pub overflow_add-result-in-Fine : goal.overflow_add-result-in-Fine
-overflow_add-result-in-Fine c =
-    let i = inside_as c.args.part.now c.args.at (sym c.in-Rule.is ∙ c.stands_at.ensures) in omega (arith, i.0)
+pub overflow_add-result-2 : goal.overflow_add-result-2
+overflow_add-result-2 c =
+    let i = inside_as _ _ (rule_read c.args.width.bits _ _ _ c.standing.ensures (sym c.ok.ensures.value ∙ c.in_ok-written.was) _ c.in-Rule.is) in
+    omega (arith, i.0)
 
-pub returns-in-Fine : goal.returns-in-Fine
-unfolding found_at
-returns-in-Fine c = simp (← (sym c.in-Rule.is ∙ c.stands_at.ensures), sym c.noted.ensures ∙ c.in-Fine.is)
-
-pub returns-in_default-noted : goal.returns-in_default-noted
-unfolding found_at
-returns-in_default-noted c = no_filter c.args.at c.in-Rule.written c.noted.result c.in_default-noted.not-Fine ∙ ap (good_rule c.args.at c.in-Rule.written) c.noted.ensures ∙ ap (found_in c.args.width c.args.at) (sym c.in-Rule.is ∙ c.stands_at.ensures)
-
-pub returns-in_default : goal.returns-in_default
-unfolding found_at
-returns-in_default c = no_rule c.args.width c.args.at c.stands_at.result c.in_default.not-Rule ∙ ap (found_in c.args.width c.args.at) c.stands_at.ensures
+pub returns : goal.returns
+returns c =
+    filter_read _ _ _ _ c.standing.ensures (sym c.ok.ensures.value ∙ c.in_ok-written.was) _ c.in-Rule.is
+    (ap result_ok (sym c.filter.ensures) ∙ sym c.ok-2.ensures.value ∙ c.in_ok-pattern.was)

@@ -1,19 +1,25 @@
--- The lookup in a table's part. Between two records, the rest of the part gives the answer (`Looking`).
-use mathlib.Core.Path.{sym, ◌∙◌}
-use Rattle.reading.proofs.Looking.{looking_starts, looking_less, looking_hit, looking_miss, looking_stop}
+-- The lookup in a table's part. The rules that are left give the answer.
+use mathlib.Core.List.{List}
+use mathlib.Core.Path.{refl, sym, ap, ◌∙◌}
+use Rattle.reading.specs.declared.Rule.{Rule}
+use Rattle.reading.specs.Network.{act}
+use Rattle.reading.specs.Arrays.{rules_in, rules_left}
 use Rattle.reading.proofs.lookup.Goals as goal
 
 pub loop-rule-init : goal.loop-rule-init
-loop-rule-init c = looking_starts _ _ _
+unfolding rules_in rules_left
+loop-rule-init c = rw (c.into_iter-rule-iterator.ensures.into_iter_gives, c.open-records.ensures.0, c.open-records.ensures.1) refl
 
 pub returns-then-within : goal.returns-then-within
-returns-then-within c = looking_hit _ _ _ _ c.loop-rule.invariant (sym c.in-Good.is ∙ c.found_at.ensures) (sym c.within.ensures ∙ c.if-within.true)
-
-pub loop-rule-smaller : goal.loop-rule-smaller
-loop-rule-smaller c = looking_less _ _ _ _ c.loop-rule.invariant (sym c.in-Good.is ∙ c.found_at.ensures)
+unfolding act
+returns-then-within c =
+    sym (c.loop-rule.invariant ∙ ap (λ (l : List Rule). act l c.args.query) c.in-Some.ensures.steps ∙ simp (sym c.within.ensures ∙ c.if-within.true))
 
 pub loop-rule-preserved : goal.loop-rule-preserved
-loop-rule-preserved c = looking_miss _ _ _ _ c.loop-rule.invariant (sym c.in-Good.is ∙ c.found_at.ensures) (sym c.within.ensures ∙ c.if-within.false)
+unfolding act
+loop-rule-preserved c =
+    c.loop-rule.invariant ∙ ap (λ (l : List Rule). act l c.args.query) c.in-Some.ensures.steps ∙ simp (sym c.within.ensures ∙ c.if-within.false)
 
-pub returns-in-Nothing : goal.returns-in-Nothing
-returns-in-Nothing c = looking_stop _ _ _ _ c.loop-rule.invariant (sym c.in-Nothing.is ∙ c.found_at.ensures)
+pub returns : goal.returns
+unfolding act
+returns c = sym (c.loop-rule.invariant ∙ ap (λ (l : List Rule). act l c.args.query) c.in-None.ensures.steps.0)

@@ -1,11 +1,8 @@
--- The lookup in a table's part. Between two records, the rest of the part gives the answer (`Looking`).
-use Prim.Native.Nat.{◌-◌}
-use lib.ListN.{length}
-use Rattle.reading.proofs.Looking.{Looking}
+-- The lookup in a table's part. The rules that are left give the answer.
+use mathlib.Core.Path.{◌≡◌}
+use Rattle.reading.specs.Network.{act}
+use Rattle.reading.specs.Arrays.{rules_in, rules_left}
 use Rattle.reading.proofs.lookup.Given as goal
 
 abbrev pub invariant-loop-rule : goal.invariant-loop-rule
-invariant-loop-rule l = Looking l.width l.part l.query l.at
-
-abbrev pub decreases-loop-rule : goal.decreases-loop-rule
-decreases-loop-rule l = length l.part - l.at
+invariant-loop-rule l = act (rules_in l.fn.width.bits l.part) l.query ≡ act (rules_left l.rule-iterator) l.query
