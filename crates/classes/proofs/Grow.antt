@@ -49,7 +49,7 @@ good_last w (x ∷ fs) f g = good_last w fs f g.1
 
 -- the first j filters, and filter j
 module _ (w : ℕ) (fs : List Pattern) (g : AllWellFormed w fs) (j : ℕ) (d : Pattern) where
-  good_upto : AllWellFormed w (take j fs)
+  pub good_upto : AllWellFormed w (take j fs)
   good_upto = good-prefix w (take j fs) (drop j fs) (subst (AllWellFormed w) (sym (take-append-drop j fs)) g)
 
   pub good_at : j < length fs → WellFormed w (get_or fs j d)

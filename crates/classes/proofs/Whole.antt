@@ -83,11 +83,11 @@ module _ (figure : Entry → ℕ) (cs vs ns a : List ℕ) (same-figure : (k : �
       ap (take (suc m)) (drop-cons a j 0 (omega arith))
       ∙ ap₂ (λ (x : ℕ) (l : List ℕ). x ∷ l) (same-figure j) (figures (suc j) m (omega arith))
 
-  figures_all : (m : ℕ) → m ≤ length a → take m a ≡ map figure (rows cs vs ns 0 m)
+  pub figures_all : (m : ℕ) → m ≤ length a → take m a ≡ map figure (rows cs vs ns 0 m)
   figures_all m h = figures 0 m (omega arith)
 
 -- m entries that are L, the rest cleared
-laid_out : (figure : Entry → ℕ) (L : List Entry) (m : ℕ) (c b a : List ℕ) → c ≡ wiped m b → m ≡ length L → take m b ≡ map figure L → length a ≡ 1024 → c ≡ laid figure L a
+pub laid_out : (figure : Entry → ℕ) (L : List Entry) (m : ℕ) (c b a : List ℕ) → c ≡ wiped m b → m ≡ length L → take m b ≡ map figure L → length a ≡ 1024 → c ≡ laid figure L a
 unfolding wiped
 laid_out figure L m c b a e n t l =
     e ∙ ap₂ (λ (x : List ℕ) (k : ℕ). x ++ replicate (1024 - k) 0) t n

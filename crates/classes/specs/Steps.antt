@@ -70,6 +70,10 @@ rows cs vs ns j (suc m) = row cs vs ns j ∷ rows cs vs ns (suc j) m
 abbrev pub rows_from : Entries → ℕ → List Entry
 rows_from l j = rows l.cares.now l.values.now l.sizes.now j (l.len - j)
 
+-- The entries from n on are the same.
+abbrev pub SameFrom : ℕ → List ℕ → List ℕ → Type 0
+SameFrom n b a = (k : ℕ) → n ≤ k → get_or b k 0 ≡ get_or a k 0
+
 -- a with x put in at place i of the first n: those from there on go one place up.
 unfoldable pub inserted : {A : Type 0} → ℕ → ℕ → A → List A → List A
 inserted i n x a = take i a ++ (x ∷ take (n - i) (drop i a) ++ drop (suc n) a)

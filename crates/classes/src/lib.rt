@@ -9,7 +9,7 @@ ghost use Rattle.classes.specs.Steps.{Gathered};
 pub mod entries;
 mod lists;
 mod places;
-mod taking;
+pub mod taking;
 
 use pattern::{Pattern, Width};
 use places::Listing;

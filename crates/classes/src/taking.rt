@@ -1,8 +1,8 @@
 // Taking in one filter: the entries are divided by it in place, the last first.
-ghost use Rattle.std.specs.Prelude.{◌≡◌, true, ◌+◌, ◌-◌, ◌^◌, ◌≤◌, ◌<◌, get_or, MatchResult};
+ghost use Rattle.std.specs.Prelude.{◌≡◌, true, ◌+◌, ◌-◌, ◌^◌, ◌≤◌, ◌<◌, length, get_or, MatchResult};
 ghost use Rattle.pattern.specs.Filters.{within};
 ghost use Rattle.classes.specs.Classes.{tally};
-ghost use Rattle.classes.specs.Steps.{sum_if, moved, cut, sift_one, sift, cover, taken_in, SoundOne, Sound, entry_at, entries_from, entries, Stands, Lacks, Became, Took};
+ghost use Rattle.classes.specs.Steps.{sum_if, moved, cut, sift_one, sift, cover, taken_in, SoundOne, Sound, rows, SameFrom, entry_at, entries_from, entries, Stands, Lacks, Became, Took};
 
 use crate::entries::Entries;
 use crate::places::Listing;
@@ -148,4 +148,45 @@ impl Listing<'_> {
             self.take_in(f);
         }
     }
+}
+
+// Takes in filter `f` after the earlier ones, in lent lists of 1,024 entries or more of which the first `n` stand; the number of
+// entries that stand then.
+pub fn take_next(
+    earlier: &[Pattern],
+    f: Filter,
+    cares: &mut [u32],
+    values: &mut [u32],
+    sizes: &mut [u64],
+    n: usize,
+) -> usize
+    requires cares { 1024 ≤ length cares.old }
+    requires values { 1024 ≤ length values.old }
+    requires sizes { 1024 ≤ length sizes.old }
+    requires few { n ≤ 512 }
+    requires sound { Sound f.width.bits f.pattern (rows cares.old values.old sizes.old 0 n) }
+    ensures entries { rows cares.new values.new sizes.new 0 result ≡ taken_in f.width.bits f.pattern earlier.now (rows cares.old values.old sizes.old 0 n) }
+    ensures twice { result ≤ n + n }
+    ensures cares { (length cares.new ≡ length cares.old) × SameFrom 1024 cares.new cares.old }
+    ensures values { (length values.new ≡ length values.old) × SameFrom 1024 values.new values.old }
+    ensures sizes { (length sizes.new ≡ length sizes.old) × SameFrom 1024 sizes.new sizes.old }
+{
+    // None of the three is shorter.
+    let Some(cares) = cares.first_chunk_mut::<1024>() else {
+        unreachable!();
+    };
+    let Some(values) = values.first_chunk_mut::<1024>() else {
+        unreachable!();
+    };
+    let Some(sizes) = sizes.first_chunk_mut::<1024>() else {
+        unreachable!();
+    };
+    let mut list = Listing {
+        cares,
+        values,
+        sizes,
+        len: n,
+    };
+    list.take_next(earlier, f);
+    list.len
 }

@@ -5,26 +5,22 @@ use mathlib.Core.List.{List, [], ◌∷◌, ◌++◌, flatten}
 use Prim.Native.Nat.{ℕ, zero, suc, ◌≤◌, ◌<◌}
 use native.Mathlib.Omega.{arith}
 use lib.ListN.{length, get_or, take, drop, length-map}
-use borrow.Author.Tests.{ltb-true}
-use Rattle.std.specs.Prelude.{Ok, Err, Some}
-use Rattle.std.specs.Option.{unwrap_or}
+use Rattle.std.specs.Prelude.{Ok, Err}
 use Rattle.std.proofs.Math.Seq.{take-append_seam}
 use Rattle.pattern.specs.declared.Pattern.{Pattern}
 use Rattle.pattern.specs.Filters.{WellFormed, within}
-use Rattle.reading.specs.declared.Action.{Action}
-use Rattle.reading.specs.declared.Action.TheVariants.{Forward, Drop, Deliver}
 use Rattle.reading.specs.declared.Figures.{Figures}
 use Rattle.reading.specs.declared.Rule.{Rule}
 use Rattle.reading.specs.declared.refusals.Refusal.{Refusal}
 use Rattle.reading.specs.declared.Mark.{Mark}
-use Rattle.reading.specs.Network.{rules_of, filters, act, next_by}
+use Rattle.reading.specs.Network.{rules_of, filters, act}
 use Rattle.reading.specs.Code.{leads_in}
 use Rattle.reading.specs.File.{Parsed, refused, accepted, parse, answer_of, read_of}
 use Rattle.reading.specs.Arrays.{patterns_of, marks_of, filled, rules_in, part_at}
 use Rattle.reading.proofs.Networks.{Every}
-use Rattle.reading.proofs.Demand1.{rules_lead, Bounded, accepted_is_bounded, arrays_agree, PartAgrees, parts_agree}
+use Rattle.reading.proofs.Demand1.{Bounded, accepted_is_bounded, arrays_agree, PartAgrees, parts_agree}
 use Rattle.classes.specs.Given.{AllWellFormed}
-use Rattle.judge.specs.Forwarding.{nodes_of, act_at}
+use Rattle.judge.specs.Forwarding.{nodes_of}
 use Rattle.judge.specs.Judging.{Lent, figures_of, judged_of, on_parsed}
 use Rattle.judge.specs.Steps.{network_in, network_of, Stands}
 
@@ -108,20 +104,8 @@ module _ (s : List ℕ) (figures : Figures) (e : Ok figures ≡ read_of s) where
     from = λ v h. (part v h).from;
     upto = λ v h. (part v h).upto;
     table = λ v h. ap (λ (k : ℕ). rules_in k (part_at s marks v)) (sym width) ∙ (part v h).table;
-    leads = λ query v next h e. go (act_at (network_of s) query v) (acts_lead query v) next e;
   }
     where
-      acts_lead : (query : Pattern) (v : ℕ) → leads_in figures.nodes (act_at (network_of s) query v) ≡ true
-      acts_lead query v =
-          act-leads figures.nodes (get_or (network_of s).tables v []) query
-          (every_table (λ r. leads_in figures.nodes r.action ≡ true) (network_of s).tables v
-          (subst (λ (m : ℕ). Every (λ r. leads_in m r.action ≡ true) (rules_of (network_of s))) nodes (rules_lead s (network_of s) t.parsed)))
-
-      go : (a : Action) → leads_in figures.nodes a ≡ true → (next : ℕ) → next_by a ≡ Some next → next < figures.nodes
-      go (Forward to) l next e = ltb-true next figures.nodes (ap (λ a. leads_in figures.nodes a) (sym (ap (λ o. Forward (unwrap_or o 0)) e)) ∙ l)
-      go Drop l next e = cc
-      go Deliver l next e = cc
-
       part : (v : ℕ) → v < figures.nodes → PartAgrees s marks (network_of s) v
       part v h = parts_agree s (network_of s) t.parsed marks old m v (omega (arith, nodes, h))
 

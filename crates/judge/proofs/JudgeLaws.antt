@@ -111,7 +111,7 @@ module _ (net : Network) (old now : Lent) (w : ℕ) (fs : List Pattern) (width :
 -- ---- 13, before the file, where any of the lists is too short
 
 module _ (file : List ℕ) (old : Lent) where
-  judge_short : too_short old ≡ true → judge_of file old ≡ judgement (Err (refusal ShortLists 0)) old
+  pub judge_short : too_short old ≡ true → judge_of file old ≡ judgement (Err (refusal ShortLists 0)) old
   unfolding judge_of
   judge_short e = rw e
 

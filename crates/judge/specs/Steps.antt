@@ -1,14 +1,13 @@
 -- What the code's steps are; serves the proofs: an accepted file's network, where its tables stand, and what the functions below Judge are lent.
-use Rattle.std.specs.Prelude.{◌≡◌, List, [], map, ℕ, ◌+◌, ◌≤◌, ◌<◌, length, get_or, Some}
-use Rattle.pattern.specs.declared.Pattern.{Pattern}
+use Rattle.std.specs.Prelude.{◌≡◌, List, [], map, ℕ, ◌+◌, ◌≤◌, ◌<◌, length, get_or}
 use Rattle.reading.specs.declared.Mark.{Mark}
-use Rattle.reading.specs.Network.{Network, filters, next_by}
+use Rattle.reading.specs.Network.{Network, filters}
 use Rattle.reading.specs.File.{Parsed, refused, accepted, parse}
 use Rattle.reading.specs.Arrays.{rules_in, place_in, part_at}
 use Rattle.classes.specs.Classes.{care_at, value_at}
 use Rattle.classes.specs.Given.{AllWellFormed}
 use Rattle.least.specs.declared.Patterns.{Patterns}
-use Rattle.judge.specs.Forwarding.{nodes_of, act_at}
+use Rattle.judge.specs.Forwarding.{nodes_of}
 use Rattle.judge.specs.Judging.{classes_of}
 
 abbrev pub network_in : Parsed → Network
@@ -19,7 +18,7 @@ network_in (accepted net) = net
 unfoldable pub network_of : List ℕ → Network
 network_of file = network_in (parse file)
 
--- The n nodes' tables stand in the file at these marks, and lead to nodes.
+-- The n nodes' tables stand in the file at these marks.
 pub record Stands (file : List ℕ) (marks : List Mark) (n w : ℕ) : Type 0 where
   pub width : (network_of file).width ≡ w
   pub nodes : nodes_of (network_of file) ≡ n
@@ -27,7 +26,6 @@ pub record Stands (file : List ℕ) (marks : List Mark) (n w : ℕ) : Type 0 whe
   pub from : (v : ℕ) → v < n → place_in marks v + 2 ≤ place_in marks (v + 1)
   pub upto : (v : ℕ) → v < n → place_in marks (v + 1) ≤ length file
   pub table : (v : ℕ) → v < n → rules_in w (part_at file marks v) ≡ get_or (network_of file).tables v []
-  pub leads : (query : Pattern) (v next : ℕ) → v < n → next_by (act_at (network_of file) query v) ≡ Some next → next < n
 
 -- The network's class list stands in the lists of care masks and values.
 pub record Listed (net : Network) (listed : Patterns) : Type 0 where

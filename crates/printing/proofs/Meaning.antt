@@ -21,7 +21,7 @@ use Rattle.judge.specs.Judging.{lent_of}
 use Rattle.printing.specs.Lines.{class_line, class_at, class_lines}
 use Rattle.printing.specs.declared.Printed.{Printed}
 use Rattle.printing.specs.declared.Lines.{Lines}
-use Rattle.printing.specs.Left.{lines_of, lines_left}
+use Rattle.printing.specs.Left.{lines_of, lines_left, TakesFirst}
 
 -- The number that a text of digits stands for, after so much.
 unfoldable pub value_after : ℕ → List ℕ → ℕ
@@ -118,3 +118,16 @@ bytes line = line.bytes
 -- Whoever goes over the lines of a verdict is given their texts, each once, in their order, and no more.
 pub all_lines : (p : Printed) (s : Lines) → lines_left s ≡ lines_of p → YieldsList (YieldsFirstBy bytes lines_left) bytes s (lines_of p)
 all_lines p s e = YieldsList-from_first bytes lines_left (lines_of p) e
+
+-- These are the lines that `put_next` puts one after another, up to where it finds none left.
+abbrev pub Taken : Lines → List (List ℕ) → Type 0
+Taken s [] = (line : List ℕ) × (t : Lines) × TakesFirst s false line t
+Taken s (x ∷ xs) = (t : Lines) × TakesFirst s true x t × Taken t xs
+
+taken_left : (s : Lines) (xs : List (List ℕ)) → Taken s xs → xs ≡ lines_left s
+taken_left s [] (line, t, f) = sym (f.1 refl).0
+taken_left s (x ∷ xs) (t, f, rest) = ap (λ (l : List (List ℕ)). x ∷ l) (taken_left t xs rest) ∙ sym (f.0 refl)
+
+-- So they are the texts of all lines of the verdict, each once, in their order, and no more.
+pub all_taken : (p : Printed) (s : Lines) (xs : List (List ℕ)) → lines_left s ≡ lines_of p → Taken s xs → xs ≡ lines_of p
+all_taken p s xs e run = taken_left s xs run ∙ e

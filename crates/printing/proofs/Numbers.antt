@@ -24,14 +24,14 @@ enough (suc m) (suc k) n h g =
     (front (ltb n 10) (digits m (n / 10)) (digits k (n / 10)) (λ e. let big : 10 ≤ n = ltb-false n 10 e in enough m k (n / 10) (omega arith) (omega arith)))
 
 -- One digit.
-decimal-one : (n : ℕ) → n < 10 → decimal n ≡ digit n ∷ []
+pub decimal-one : (n : ℕ) → n < 10 → decimal n ≡ digit n ∷ []
 unfolding decimal digits
 decimal-one n h =
     ap (λ (b : Bool). cond b [] (digits n (n / 10)) ++ (digit (n % 10) ∷ [])) (lt-ltb n 10 h)
     ∙ ap (λ (d : ℕ). digit d ∷ []) (omega arith)
 
 -- The digits before the last one, then the last.
-decimal_more : (n : ℕ) → 10 ≤ n → decimal n ≡ decimal (n / 10) ++ (digit (n % 10) ∷ [])
+pub decimal_more : (n : ℕ) → 10 ≤ n → decimal n ≡ decimal (n / 10) ++ (digit (n % 10) ∷ [])
 unfolding decimal digits
 decimal_more n h =
     ap (λ (b : Bool). cond b [] (digits n (n / 10)) ++ (digit (n % 10) ∷ [])) (le-ltb n 10 h)

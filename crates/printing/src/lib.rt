@@ -1,7 +1,7 @@
 // What text an answer becomes: the lines of the printed verdict.
 #![tactic(auto)]
 
-ghost use Rattle.std.specs.Prelude.{◌≡◌, [], ◌<◌, length, get_or};
+ghost use Rattle.std.specs.Prelude.{◌≡◌, [], false, ◌<◌, length, get_or};
 ghost use Rattle.std.specs.Iterator.{YieldsFirstBy, item_count};
 ghost use Rattle.printing.specs.Lines.{class_at, lines};
 ghost use Rattle.judge.specs.Judging.{Lent, lent_of};
@@ -12,7 +12,8 @@ mod pieces;
 
 use arrayvec::ArrayString;
 use judge::Judged;
-use kinds::{class, class_count, counts, refused, verdict_of};
+pub use kinds::put_refused;
+use kinds::{put_class, put_class_count, put_counts, put_verdict};
 use pattern::{Pattern, Width};
 use reading::Refusal;
 
@@ -38,6 +39,18 @@ pub struct Lines<'a> {
     next: usize,
 }
 
+// How many lines an answer has, whatever stands in the lists.
+#[tactic(auto, using(crate::proofs::ByNumber::judged_length))]
+pub fn line_count(answer: Result<Judged, Refusal>) -> usize
+    requires { Bounded answer }
+    ensures { (l : Lent) → result ≡ length (lines answer l) }
+{
+    match answer {
+        Err(_) => 1,
+        Ok(judged) => judged.classes + 3,
+    }
+}
+
 impl<'a> Printed<'a> {
     ghost use Rattle.printing.specs.Left.{lent_in, lines_of, lines_left};
 
@@ -51,27 +64,46 @@ impl<'a> Printed<'a> {
         }
     }
 
-    // How many lines it has, whatever stands in the lists.
-    #[tactic(auto, using(crate::proofs::ByNumber::judged_length))]
+    // How many lines it has.
     pub fn line_count(self) -> usize
         ensures { (l : Lent) → result ≡ length (lines self.entry.answer l) }
     {
-        match self.answer {
-            Err(_) => 1,
-            Ok(judged) => judged.classes + 3,
-        }
+        line_count(self.answer)
     }
 
-    // The class that stands at place i of the lists.
-    fn class_at(self, width: Width, i: usize) -> Line
+    // The class that stands at place i of the lists, in the place of what `line` held.
+    fn put_class_at(self, line: &mut Line, width: Width, i: usize)
         requires { i < 1024 }
-        ensures { result.bytes ≡ class_at width.bits (lent_in self.entry) i }
+        ensures { line.new.bytes ≡ class_at width.bits (lent_in self.entry) i }
     {
         let pattern = Pattern {
             care: self.cares[i],
             value: self.values[i],
         };
-        class(width, pattern, self.sizes[i])
+        put_class(line, width, pattern, self.sizes[i]);
+    }
+
+    // Line k of the printed verdict, counted from 0, in the place of what `line` held.
+    pub fn put_line(self, line: &mut Line, k: usize)
+        requires { k < length (lines_of self) }
+        ensures { line.new.bytes ≡ get_or (lines_of self.entry) k [] }
+    {
+        let judged = match self.answer {
+            Err(refusal) => {
+                put_refused(line, u8::from(refusal.reason), refusal.place);
+                return;
+            }
+            Ok(judged) => judged,
+        };
+        let width = Width {
+            bits: judged.figures.width,
+        };
+        match k {
+            0 => put_counts(line, judged.figures),
+            1 => put_class_count(line, judged.classes),
+            _ if k < judged.classes + 2 => self.put_class_at(line, width, k - 2),
+            _ => put_verdict(line, width, judged.verdict, self.cycle),
+        }
     }
 
     // Line k of the printed verdict, counted from 0.
@@ -79,19 +111,26 @@ impl<'a> Printed<'a> {
         requires { k < length (lines_of self) }
         ensures { result.bytes ≡ get_or (lines_of self.entry) k [] }
     {
-        let judged = match self.answer {
-            Err(refusal) => return refused(refusal),
-            Ok(judged) => judged,
-        };
-        let width = Width {
-            bits: judged.figures.width,
-        };
-        match k {
-            0 => counts(judged.figures),
-            1 => class_count(judged.classes),
-            _ if k < judged.classes + 2 => self.class_at(width, k - 2),
-            _ => verdict_of(width, judged.verdict, self.cycle),
+        let mut line = Line::new();
+        self.put_line(&mut line, k);
+        line
+    }
+}
+
+impl Lines<'_> {
+    ghost use Rattle.printing.specs.Left.{lines_left, TakesFirst};
+
+    // Puts the next line in the place of what `line` held; where none is left, it answers false and `line` stays.
+    pub fn put_next(&mut self, line: &mut Line) -> bool
+        ensures next { TakesFirst self.old result line.new.bytes self.new }
+        ensures kept { result ≡ false → line.new.bytes ≡ line.old.bytes }
+    {
+        if self.next >= self.printed.line_count() {
+            return false;
         }
+        self.printed.put_line(line, self.next);
+        self.next += 1;
+        true
     }
 }
 
@@ -105,11 +144,10 @@ impl Iterator for Lines<'_> {
     ghost remaining = { item_count lines_left };
 
     fn next(&mut self) -> Option<Line> {
-        if self.next >= self.printed.line_count() {
-            return None;
+        let mut line = Line::new();
+        if self.put_next(&mut line) {
+            return Some(line);
         }
-        let line = self.printed.line(self.next);
-        self.next += 1;
-        Some(line)
+        None
     }
 }

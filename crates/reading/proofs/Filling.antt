@@ -134,7 +134,7 @@ module _ (s : List ℕ) (old new : Arrays) (st : State) (k : Filling s old new s
       }
 
   -- A table record's mark goes to the place of the table.
-  table_place : st.tables < 65
+  pub table_place : st.tables < 65
   table_place = omega (arith, k.known.ok.tables, k.known.ok.nodes)
 
   marks_room : st.tables < length old.marks

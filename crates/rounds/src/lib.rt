@@ -1,8 +1,9 @@
-// Going round: cycles in a row of next nodes. A row has the next node at each node's place, or none at an end.
+// Going round: cycles in a row of next nodes. A row has the next node at each node's place, or none at an end; with n nodes, a
+// number of n or more is an end too.
 #![tactic(auto)]
 
 ghost use Rattle.std.specs.Prelude.{◌≡◌, ◌≤◌, ◌<◌, ◌++◌, true, length, drop};
-ghost use Rattle.rounds.specs.Rows.{next_of, LeadsInside};
+ghost use Rattle.rounds.specs.Rows.{next_of};
 ghost use Rattle.rounds.specs.Rounds.{returns_to, lowest, cycle_of, cycle_for, cycle_bytes};
 
 // A network for one header: the next of each node.
@@ -11,7 +12,6 @@ pub struct Row {
     pub next: [Option<u8>; 64],
     pub nodes: usize,
     pub ghost few: { nodes ≤ 64 },
-    pub ghost inside: { LeadsInside next nodes },
 }
 
 impl Row {
@@ -28,6 +28,9 @@ impl Row {
             cur = usize::from(next);
             if cur == v {
                 return true;
+            }
+            if self.nodes <= cur {
+                return false;
             }
         }
         false

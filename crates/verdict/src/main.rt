@@ -3,9 +3,9 @@
 
 ghost use Rattle.std.specs.Prelude.{◌≤◌, length};
 
-use printing::Printed;
+use printing::{Line, Printed};
 use std::io;
-use std::io::Read;
+use std::io::{Read, Write};
 
 // Reads standard input until the buffer is full or the input gives no more, and says how many bytes the buffer then holds.
 fn read_full(rt: &HostRuntime, file: &mut [u8]) -> usize
@@ -24,8 +24,11 @@ fn read_full(rt: &HostRuntime, file: &mut [u8]) -> usize
 
 // Writes the lines of an answer, each by a call of its own, as long as the output takes them.
 fn print(rt: &HostRuntime, printed: Printed) -> io::Result<()> {
-    for line in printed.lines() {
-        rt.print(line)?;
+    let mut output = rt.stdout();
+    let mut lines = printed.lines();
+    let mut line = Line::new();
+    while lines.put_next(&mut line) {
+        output.write_all(line.as_str().as_bytes())?;
     }
     Ok(())
 }

@@ -23,12 +23,16 @@ pub returns-then-cur-v : goal.returns-then-cur-v
 returns-then-cur-v c =
     sym (c.loop.invariant.1 ∙ back_hit _ _ _ _ _ c.loop-test.true (next_read _ _ _ _ c.loop.invariant.0 c.in-Some.is ∙ sym c.from-cur.ensures ∙ c.if-cur-v.true))
 
+pub returns-then-self-cur : goal.returns-then-self-cur
+returns-then-self-cur c =
+    sym (turn _ _ _ _ _ _ c.loop.invariant.1 c.loop-test.true (next_read _ _ _ _ c.loop.invariant.0 c.in-Some.is ∙ sym c.from-cur.ensures) c.if-cur-v.false
+    ∙ back_ended _ _ (row_ends _ _) _ _ _ c.requires (omega (arith, c.if-self-cur.true)))
+
 pub loop-preserved : goal.loop-preserved
-loop-preserved c =
-    let less : c.in-Some.next < c.args.self.now.nodes = c.args.self.now.inside _ _ c.loop.invariant.0 c.in-Some.is in (
-      omega (arith, less, c.from-cur.ensures),
-      turn _ _ _ _ _ _ c.loop.invariant.1 c.loop-test.true (next_read _ _ _ _ c.loop.invariant.0 c.in-Some.is ∙ sym c.from-cur.ensures) c.if-cur-v.false,
-    )
+loop-preserved c = (
+  omega (arith, c.if-self-cur.false),
+  turn _ _ _ _ _ _ c.loop.invariant.1 c.loop-test.true (next_read _ _ _ _ c.loop.invariant.0 c.in-Some.is ∙ sym c.from-cur.ensures) c.if-cur-v.false,
+)
 
 pub returns : goal.returns
 returns c = sym (c.loop.invariant.1 ∙ back_none _ _ _ _ _ c.loop-test.false)
